@@ -1,0 +1,26 @@
+// Counts of coins in lent memory, each below 2^62.
+ghost use mathlib.Core.Path.{_≡_};
+ghost use mathlib.Core.Bool.{cond};
+ghost use Prim.Native.Nat.{ℕ, _+_, _<_, _≤_};
+ghost use lib.ListN.{length, getD, set};
+ghost use lib.Dec.{ltb};
+ghost use Rattle.coins.specs.Limits.{limit};
+
+// No count comes to this.
+pub(crate) const LIMIT: u64 = 1 << 62;
+
+// Whether n more keep a count below the limit.
+pub(crate) fn fits(count: u64, more: u64) -> bool
+    ensures { λ r. ⌜ r ≡ ltb (count + more) limit ⌝ }
+{
+    more < LIMIT && count < LIMIT - more
+}
+
+// Adds to the i-th of the counts.
+pub(crate) fn add(counts: &mut [u64], i: usize, more: u64)
+    requires inside { ⌜ i < length (now counts) ⌝ }
+    requires fits { ⌜ getD (now counts) i 0 + more < limit ⌝ }
+    ensures { λ _. ⌜ now (counts .exit) ≡ set (now (counts .entry)) i (getD (now (counts .entry)) i 0 + more) ⌝ }
+{
+    counts[i] += more;
+}

@@ -1,0 +1,31 @@
+// Which of the 64 places a letter has.
+ghost use mathlib.Core.Path.{_≡_};
+ghost use Prim.Native.Nat.{ℕ, _+_, _<_, _≤_};
+ghost use lib.ListN.{length};
+ghost use Rattle.coins.specs.Letters.{seek, place};
+use crate::ids::LetterId;
+
+// How many letters may be open at a time.
+pub const LETTERS: usize = 64;
+
+// The first place that has this number, or the length where none has. Free places have number 0.
+pub(crate) fn first(numbers: &[u32], number: u32) -> usize
+    ensures value { λ r. ⌜ r ≡ seek (now (numbers .entry)) number ⌝ }
+    ensures within { λ r. ⌜ r ≤ length (now (numbers .entry)) ⌝ }
+{
+    for (i, n) in numbers.iter().enumerate() {
+        if *n == number {
+            return i;
+        }
+    }
+    numbers.len()
+}
+
+// The place of a letter, or 64 where it has none.
+pub(crate) fn find(numbers: &[u32], letter: LetterId) -> usize
+    requires { ⌜ length (now numbers) ≡ 64 ⌝ }
+    ensures value { λ r. ⌜ r ≡ place (now (numbers .entry)) (letter .number) ⌝ }
+    ensures within { λ r. ⌜ r ≤ 64 ⌝ }
+{
+    if letter.number == 0 { LETTERS } else { first(numbers, letter.number) }
+}
