@@ -56,44 +56,44 @@ granted b i = record { highest = b .highest; letters = b .letters; given = set (
 -- the place i is taken by this letter, with these counts
 abbrev pub entered : Boss → ℕ → ℕ → ℕ → ℕ → Boss
 entered b highest i letter given =
-  record { highest = highest; letters = set (b .letters) i letter; given = set (b .given) i given; back = set (b .back) i 0 }
+    record { highest = highest; letters = set (b .letters) i letter; given = set (b .given) i given; back = set (b .back) i 0 }
 
 -- Give: work for a helper; the first opens the letter, whose number is above all before
 abbrev pub giveOpen : Boss → LetterId → NodeId → ℕ → ℕ → Called
 giveOpen b letter to room i =
-  cond (ltb (getD (b .given) i 0 + grant) limit)
+    cond (ltb (getD (b .given) i 0 + grant) limit)
     (cond (eqb room 0) (refuse b NoPlace)
-      (record { boss = granted b i; outcome = record { answer = Fine; post = send to letter (Work grant) } }))
+    (record { boss = granted b i; outcome = record { answer = Fine; post = send to letter (Work grant) } }))
     (refuse b CountsUsed)
 
 abbrev pub giveAt : Boss → LetterId → NodeId → ℕ → ℕ → Called
 giveAt b letter to room i =
-  cond (ltb i 64)
+    cond (ltb i 64)
     (cond (eqb room 0) (refuse b NoPlace)
-      (record { boss = entered b (letter .number) i (letter .number) grant; outcome = record { answer = Fine; post = send to letter (Work grant) } }))
+    (record { boss = entered b (letter .number) i (letter .number) grant; outcome = record { answer = Fine; post = send to letter (Work grant) } }))
     (refuse b LettersFull)
 
 abbrev pub giveNew : Boss → LetterId → NodeId → ℕ → Called
 giveNew b letter to room =
-  cond (ltb (b .highest) (letter .number)) (giveAt b letter to room (seek (b .letters) 0)) (refuse b NoLetter)
+    cond (ltb (b .highest) (letter .number)) (giveAt b letter to room (seek (b .letters) 0)) (refuse b NoLetter)
 
 abbrev pub giveStep : Boss → LetterId → NodeId → ℕ → Called
 giveStep b letter to room =
-  cond (ltb 255 (to .number)) (refuse b Malformed)
+    cond (ltb 255 (to .number)) (refuse b Malformed)
     (cond (ltb (place (b .letters) (letter .number)) 64)
-      (giveOpen b letter to room (place (b .letters) (letter .number)))
-      (giveNew b letter to room))
+    (giveOpen b letter to room (place (b .letters) (letter .number)))
+    (giveNew b letter to room))
 
 -- Say: done, if all coins given out came back; the place is free for another letter
 abbrev pub sayAt : Boss → ℕ → Called
 sayAt b i =
-  cond (eqb (getD (b .given) i 0) (getD (b .back) i 0))
+    cond (eqb (getD (b .given) i 0) (getD (b .back) i 0))
     (record { boss = entered b (b .highest) i 0 0; outcome = record { answer = Done; post = Nothing } })
     (refuse b CoinsOut)
 
 abbrev pub sayStep : Boss → LetterId → Called
 sayStep b letter =
-  cond (ltb (place (b .letters) (letter .number)) 64) (sayAt b (place (b .letters) (letter .number))) (refuse b NoLetter)
+    cond (ltb (place (b .letters) (letter .number)) 64) (sayAt b (place (b .letters) (letter .number))) (refuse b NoLetter)
 
 abbrev pub turned : Boss → Refusal → Took-in
 turned b why = record { boss = b; taking = Turned why }
@@ -101,27 +101,27 @@ turned b why = record { boss = b; taking = Turned why }
 -- Coins have come back: some, of an open letter, and no more than are out
 abbrev pub backAt : Boss → ℕ → ℕ → Took-in
 backAt b c i =
-  cond (leb (getD (b .back) i 0 + c) (getD (b .given) i 0))
+    cond (leb (getD (b .back) i 0 + c) (getD (b .given) i 0))
     (record { boss = record { highest = b .highest; letters = b .letters; given = b .given; back = set (b .back) i (getD (b .back) i 0 + c) }; taking = Took Nothing })
     (turned b Malformed)
 
 abbrev pub backStep : Boss → LetterId → ℕ → Took-in
 backStep b letter c =
-  cond (eqb c 0 || leb 64 (place (b .letters) (letter .number))) (turned b Malformed) (backAt b c (place (b .letters) (letter .number)))
+    cond (eqb c 0 || leb 64 (place (b .letters) (letter .number))) (turned b Malformed) (backAt b c (place (b .letters) (letter .number)))
 
 -- More: a helper asks; it gets as many as work gets, or none where the letter is not open or counts are used up
 abbrev pub askAt : Boss → NodeId → LetterId → ℕ → Took-in
 askAt b sender letter i =
-  cond (ltb (getD (b .given) i 0 + grant) limit)
+    cond (ltb (getD (b .given) i 0 + grant) limit)
     (record { boss = granted b i; taking = Took (send sender letter (More grant)) })
     (record { boss = b; taking = Took (send sender letter NoMore) })
 
 abbrev pub askStep : Boss → NodeId → LetterId → ℕ → Took-in
 askStep b sender letter room =
-  cond (eqb room 0) (record { boss = b; taking = Later })
+    cond (eqb room 0) (record { boss = b; taking = Later })
     (cond (ltb (place (b .letters) (letter .number)) 64)
-      (askAt b sender letter (place (b .letters) (letter .number)))
-      (record { boss = b; taking = Took (send sender letter NoMore) }))
+    (askAt b sender letter (place (b .letters) (letter .number)))
+    (record { boss = b; taking = Took (send sender letter NoMore) }))
 
 -- a message has come to the boss; room: the places that there are towards its sender
 abbrev pub receiveStep : Boss → NodeId → LetterId → Kind → ℕ → Took-in

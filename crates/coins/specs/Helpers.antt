@@ -71,35 +71,35 @@ fine h post = record { helper = h; outcome = record { answer = Fine; post = post
 -- Share: work for a helper with the smaller half of the coins; what is for itself is taken at once. With one coin it asks.
 abbrev pub askAt : Helper → LetterId → ℕ → Holding → ℕ → Called
 askAt h letter i x boss =
-  cond (x .asked || eqb boss 0) (refuse h OneCoin)
+    cond (x .asked || eqb boss 0) (refuse h OneCoin)
     (record { helper = store h i (waiting x); outcome = record { answer = Refused OneCoin; post = toBoss h letter Ask } })
 
 abbrev pub shareAt : Helper → LetterId → NodeId → ℕ → ℕ → ℕ → Holding → Called
 shareAt h letter to peer boss i x =
-  cond (x .working)
+    cond (x .working)
     (cond (ltb (x .coins) 2) (askAt h letter i x boss)
-      (cond (eqb (to .number) (h .me .number)) (fine h Nothing)
-        (cond (eqb peer 0) (refuse h NoPlace)
-          (fine (store h i (kept x)) (Send (record { sender = h .me; receiver = to; letter = letter; kind = Work (x .coins / 2) }))))))
+    (cond (eqb (to .number) (h .me .number)) (fine h Nothing)
+    (cond (eqb peer 0) (refuse h NoPlace)
+    (fine (store h i (kept x)) (Send (record { sender = h .me; receiver = to; letter = letter; kind = Work (x .coins / 2) }))))))
     (refuse h NotWorking)
 
 abbrev pub shareStep : Helper → LetterId → NodeId → ℕ → ℕ → Called
 shareStep h letter to peer boss =
-  cond (ltb 255 (to .number)) (refuse h Malformed)
+    cond (ltb 255 (to .number)) (refuse h Malformed)
     (cond (ltb (place (h .letters) (letter .number)) 64)
-      (shareAt h letter to peer boss (place (h .letters) (letter .number)) (at (h .holdings) (place (h .letters) (letter .number))))
-      (refuse h NoLetter))
+    (shareAt h letter to peer boss (place (h .letters) (letter .number)) (at (h .holdings) (place (h .letters) (letter .number))))
+    (refuse h NoLetter))
 
 -- Rest: it is not at work any more, and all its coins go back
 abbrev pub restAt : Helper → LetterId → ℕ → ℕ → Holding → Called
 restAt h letter boss i x =
-  cond (x .working)
+    cond (x .working)
     (cond (eqb boss 0) (refuse h NoPlace) (fine (write h i 0 idle) (toBoss h letter (Back (x .coins)))))
     (refuse h NotWorking)
 
 abbrev pub restStep : Helper → LetterId → ℕ → Called
 restStep h letter boss =
-  cond (ltb (place (h .letters) (letter .number)) 64)
+    cond (ltb (place (h .letters) (letter .number)) 64)
     (restAt h letter boss (place (h .letters) (letter .number)) (at (h .holdings) (place (h .letters) (letter .number))))
     (refuse h NoLetter)
 
@@ -110,7 +110,7 @@ seekWaiting (x ∷ xs) = cond (waits x) 0 (suc (seekWaiting xs))
 
 abbrev pub flushAt : Helper → ℕ → ℕ → Flushed
 flushAt h boss i =
-  cond (ltb i 64 && not (eqb boss 0))
+    cond (ltb i 64 && not (eqb boss 0))
     (record { helper = write h i 0 idle; post = toBoss h (record { number = getD (h .letters) i 0 }) (Back (at (h .holdings) i .coins)) })
     (record { helper = h; post = Nothing })
 
@@ -133,25 +133,25 @@ workAt h letter c x i = cond (ltb i 64) (taken (write h i (letter .number) (took
 
 abbrev pub workStep : Helper → LetterId → ℕ → Took-in
 workStep h letter c =
-  cond (counts (holdingOf h (letter .number)) c)
+    cond (counts (holdingOf h (letter .number)) c)
     (cond (eqb (letter .number) 0) (turned h NoLetter)
-      (workAt h letter c (holdingOf h (letter .number)) (slotFor h (letter .number))))
+    (workAt h letter c (holdingOf h (letter .number)) (slotFor h (letter .number))))
     (turned h Malformed)
 
 -- Coins alone have come: they join those of who is at work; else they go back, or are kept until there is a place
 abbrev pub keepAt : Helper → LetterId → ℕ → Holding → ℕ → Took-in
 keepAt h letter c x i =
-  cond (ltb i 64) (taken (write h i (letter .number) (answered x c)) Nothing) (record { helper = h; taking = Later })
+    cond (ltb i 64) (taken (write h i (letter .number) (answered x c)) Nothing) (record { helper = h; taking = Later })
 
 abbrev pub moreFor : Helper → LetterId → ℕ → ℕ → Holding → Took-in
 moreFor h letter c boss x =
-  cond (not (x .working) && ltb 0 boss)
+    cond (not (x .working) && ltb 0 boss)
     (taken (clear h (place (h .letters) (letter .number))) (toBoss h letter (Back (x .coins + c))))
     (keepAt h letter c x (slotFor h (letter .number)))
 
 abbrev pub moreStep : Helper → LetterId → ℕ → ℕ → Took-in
 moreStep h letter c boss =
-  cond (counts (holdingOf h (letter .number)) c)
+    cond (counts (holdingOf h (letter .number)) c)
     (cond (eqb (letter .number) 0) (turned h NoLetter) (moreFor h letter c boss (holdingOf h (letter .number))))
     (turned h Malformed)
 

@@ -37,7 +37,19 @@ impl Boss {
     pub fn new() -> Boss
         ensures { λ r. ⌜ r ≡ newBoss ⌝ }
     {
-        Boss { highest: 0, letters: [0; 64], given: [0; 64], back: [0; 64] }
+        Boss {
+            highest: 0,
+            letters: [0; 64],
+            given: [0; 64],
+            back: [0; 64],
+        }
+    }
+
+    // The numbers of the letters that are open, 0 at each place that is free.
+    pub fn letters(&self) -> &[u32]
+        ensures { λ r. ⌜ now r ≡ now (self .entry) .letters ⌝ }
+    {
+        &self.letters
     }
 
     // Whether the letter is open: it was given, and is not done.
@@ -66,7 +78,12 @@ impl Boss {
     fn post(to: NodeId, letter: LetterId, kind: Kind) -> Post
         ensures { λ r. ⌜ r ≡ Post.Send (record { sender = record { number = 65535 }; receiver = to; letter = letter; kind = kind }) ⌝ }
     {
-        Post::Send(Mail { sender: NodeId::boss(), receiver: to, letter, kind })
+        Post::Send(Mail {
+            sender: NodeId::boss(),
+            receiver: to,
+            letter,
+            kind,
+        })
     }
 
     // Gives work of a letter to a helper, towards whom there are so many places. The first opens the letter.
@@ -77,7 +94,11 @@ impl Boss {
             return Outcome::refused(Refusal::Malformed);
         }
         let i = find(&self.letters, letter);
-        if i < LETTERS { self.give_open(letter, to, room, i) } else { self.give_new(letter, to, room) }
+        if i < LETTERS {
+            self.give_open(letter, to, room, i)
+        } else {
+            self.give_new(letter, to, room)
+        }
     }
 
     fn give_open(&mut self, letter: LetterId, to: NodeId, room: usize, i: usize) -> Outcome

@@ -45,7 +45,11 @@ impl Helper {
     pub fn new(me: NodeId) -> Helper
         ensures { λ r. ⌜ r ≡ newHelper me ⌝ }
     {
-        Helper { me, letters: [0; 64], holdings: [Holding::idle(); 64] }
+        Helper {
+            me,
+            letters: [0; 64],
+            holdings: [Holding::idle(); 64],
+        }
     }
 
     // Its state of a letter.
@@ -53,7 +57,11 @@ impl Helper {
         ensures { λ r. ⌜ r ≡ holdingOf (now (self .entry)) (letter .number) ⌝ }
     {
         let i = find(&self.letters, letter);
-        if i < LETTERS { self.holdings[i] } else { Holding::idle() }
+        if i < LETTERS {
+            self.holdings[i]
+        } else {
+            Holding::idle()
+        }
     }
 
     // The place that the letter has, or else a free one, or else 64.
@@ -62,7 +70,11 @@ impl Helper {
         ensures within { λ r. ⌜ r ≤ 64 ⌝ }
     {
         let i = find(&self.letters, letter);
-        if i < LETTERS { i } else { first(&self.letters, 0) }
+        if i < LETTERS {
+            i
+        } else {
+            first(&self.letters, 0)
+        }
     }
 
     fn write(&mut self, i: usize, letter: LetterId, holding: Holding)
@@ -87,7 +99,12 @@ impl Helper {
     fn to_boss(&self, letter: LetterId, kind: Kind) -> Post
         ensures { λ r. ⌜ r ≡ Post.Send (record { sender = now (self .entry) .me; receiver = record { number = 65535 }; letter = letter; kind = kind }) ⌝ }
     {
-        Post::Send(Mail { sender: self.me, receiver: NodeId::boss(), letter, kind })
+        Post::Send(Mail {
+            sender: self.me,
+            receiver: NodeId::boss(),
+            letter,
+            kind,
+        })
     }
 
     // Gives work on to a helper, with the smaller half of the coins. `peer` and `boss` are the places that
@@ -117,7 +134,12 @@ impl Helper {
         }
         let (rest, half) = holding.split();
         self.holdings[i] = rest;
-        Outcome::fine(Post::Send(Mail { sender: self.me, receiver: to, letter, kind: Kind::Work(half) }))
+        Outcome::fine(Post::Send(Mail {
+            sender: self.me,
+            receiver: to,
+            letter,
+            kind: Kind::Work(half),
+        }))
     }
 
     // One coin can't be shared: asks for more, if it hasn't and there is a place.
@@ -130,7 +152,10 @@ impl Helper {
         }
         self.holdings[i] = holding.ask();
         let post = self.to_boss(letter, Kind::Ask);
-        Outcome { answer: Answer::Refused(Refusal::OneCoin), post }
+        Outcome {
+            answer: Answer::Refused(Refusal::OneCoin),
+            post,
+        }
     }
 
     // It has finished: all its coins go back to the boss, towards whom there are so many places.
@@ -160,7 +185,9 @@ impl Helper {
         if i >= LETTERS || boss == 0 {
             return Post::Nothing;
         }
-        let letter = LetterId { number: self.letters[i] };
+        let letter = LetterId {
+            number: self.letters[i],
+        };
         let coins = self.holdings[i].coins;
         self.letters[i] = 0;
         self.holdings[i] = Holding::idle();
@@ -216,7 +243,11 @@ impl Helper {
         let i = find(&self.letters, letter);
         if i < LETTERS {
             let holding = self.holdings[i];
-            self.holdings[i] = Holding { working: holding.working, coins: holding.coins, asked: false };
+            self.holdings[i] = Holding {
+                working: holding.working,
+                coins: holding.coins,
+                asked: false,
+            };
         }
         Taking::Took(Post::Nothing)
     }

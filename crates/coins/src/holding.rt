@@ -19,7 +19,11 @@ impl Holding {
     pub fn idle() -> Holding
         ensures { λ r. ⌜ r ≡ idle ⌝ }
     {
-        Holding { working: false, coins: 0, asked: false }
+        Holding {
+            working: false,
+            coins: 0,
+            asked: false,
+        }
     }
 
     // Coins that wait for a place on the way to the boss.
@@ -34,7 +38,11 @@ impl Holding {
         requires { ⌜ self .coins + coins < limit ⌝ }
         ensures { λ r. ⌜ r ≡ took self coins ⌝ }
     {
-        Holding { working: true, coins: self.coins + coins, asked: self.asked }
+        Holding {
+            working: true,
+            coins: self.coins + coins,
+            asked: self.asked,
+        }
     }
 
     // Gives the smaller half on, and keeps the rest.
@@ -43,14 +51,25 @@ impl Holding {
         ensures half { λ r. ⌜ r .1 ≡ self .coins / 2 ⌝ }
     {
         let (rest, half) = Coins::of(self.coins).split();
-        (Holding { working: self.working, coins: rest.counted(), asked: self.asked }, half.counted())
+        (
+            Holding {
+                working: self.working,
+                coins: rest.counted(),
+                asked: self.asked,
+            },
+            half.counted(),
+        )
     }
 
     // It has asked for more.
     pub(crate) fn ask(self) -> Holding
         ensures { λ r. ⌜ r ≡ waiting self ⌝ }
     {
-        Holding { working: self.working, coins: self.coins, asked: true }
+        Holding {
+            working: self.working,
+            coins: self.coins,
+            asked: true,
+        }
     }
 
     // An answer has come to its asking, with so many coins.
@@ -58,6 +77,10 @@ impl Holding {
         requires { ⌜ self .coins + coins < limit ⌝ }
         ensures { λ r. ⌜ r ≡ answered self coins ⌝ }
     {
-        Holding { working: self.working, coins: self.coins + coins, asked: false }
+        Holding {
+            working: self.working,
+            coins: self.coins + coins,
+            asked: false,
+        }
     }
 }

@@ -27,5 +27,9 @@ pub(crate) fn find(numbers: &[u32], letter: LetterId) -> usize
     ensures value { λ r. ⌜ r ≡ place (now (numbers .entry)) (letter .number) ⌝ }
     ensures within { λ r. ⌜ r ≤ 64 ⌝ }
 {
-    if letter.number == 0 { LETTERS } else { first(numbers, letter.number) }
+    if letter.number == 0 {
+        LETTERS
+    } else {
+        first(numbers, letter.number)
+    }
 }

@@ -86,12 +86,18 @@ impl Outcome {
     pub(crate) fn refused(why: Refusal) -> Outcome
         ensures { λ r. ⌜ r ≡ record { answer = Answer.Refused why; post = Post.Nothing } ⌝ }
     {
-        Outcome { answer: Answer::Refused(why), post: Post::Nothing }
+        Outcome {
+            answer: Answer::Refused(why),
+            post: Post::Nothing,
+        }
     }
 
     pub(crate) fn fine(post: Post) -> Outcome
         ensures { λ r. ⌜ r ≡ record { answer = Answer.Fine; post = post } ⌝ }
     {
-        Outcome { answer: Answer::Fine, post }
+        Outcome {
+            answer: Answer::Fine,
+            post,
+        }
     }
 }

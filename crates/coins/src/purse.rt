@@ -21,7 +21,12 @@ impl Coins {
     {
         let Coins { count } = self;
         let half = count / 2;
-        (Coins { count: count - half }, Coins { count: half })
+        (
+            Coins {
+                count: count - half,
+            },
+            Coins { count: half },
+        )
     }
 
     // Hands the coins back as a count.

@@ -1,0 +1,4 @@
+pub mod System
+pub mod Letter
+pub mod Moves
+pub mod Promise
