@@ -18,7 +18,8 @@ use Rattle.coins.specs.Helpers.{holdingOf}
 use Rattle.coins.specs.Bosses.{isOpen, givenOf, backOf}
 use Rattle.runs.specs.System.{World}
 
--- a letter is done when its number was used and it is not open
+-- A letter is done when its number is not above the highest that was opened, and it is not open: the boss has said
+-- done, or its number was passed over. Either way it is never given again.
 abbrev pub isDone : Boss → ℕ → Bool
 isDone b letter = leb letter (b .highest) && not (isOpen b letter)
 

@@ -74,3 +74,6 @@ pub data Move : View → View → Type 0 where
   -- the boss says done, when all coins are back
   says : (v : View) → v .live ≡ true → v .given ≡ v .back →
       Move v (record { live = false; done = true; given = 0; back = 0; holdings = v .holdings; post = v .post })
+  -- a number that was never given is passed over when one above it is opened: it will not be given any more
+  skips : (v : View) → v .live ≡ false →
+    Move v (record { live = false; done = true; given = v .given; back = v .back; holdings = v .holdings; post = v .post })

@@ -30,6 +30,12 @@ Laden (Back c) = 1 ≤ c
 Laden NoMore = Unit {0}
 Laden Ask = Unit {0}
 
+-- a message is taken
+abbrev pub Taken : Taking → Type 0
+Taken (Took p) = Unit {0}
+Taken Later = ⊥
+Taken (Refused why) = ⊥
+
 -- a message is taken; or, when there is no place for its answer, later; it is never turned away
 abbrev pub Welcome : ℕ → Taking → Type 0
 Welcome room (Took p) = Unit {0}
@@ -47,10 +53,10 @@ pub record Promised (w : World) : Type 0 where
   pub sound : (letter : ℕ) → 1 ≤ letter → Sound (view letter w)
   -- every message of work or coins has at least one
   pub laden : (k : ℕ) → k < length (w .post) → Laden (mailAt (w .post) k .kind)
-  -- every message is for the boss or a helper that there is, who does not turn it away
+  -- every message is for the boss or a helper that there is; a helper takes it, and the boss does not turn it away
   pub addressed : (k : ℕ) → k < length (w .post) → (mailAt (w .post) k .receiver .number < length (w .helpers)) ⊎ (mailAt (w .post) k .receiver .number ≡ bossNumber)
   pub helped : (k i boss : ℕ) → k < length (w .post) → mailAt (w .post) k .receiver .number ≡ i → i < length (w .helpers) →
-      Welcome boss (arriveStep (helperAt (w .helpers) i) (mailAt (w .post) k .letter) (mailAt (w .post) k .kind) boss .taking)
+      Taken (arriveStep (helperAt (w .helpers) i) (mailAt (w .post) k .letter) (mailAt (w .post) k .kind) boss .taking)
   pub received : (k room : ℕ) → k < length (w .post) → mailAt (w .post) k .receiver .number ≡ bossNumber →
       Welcome room (receiveStep (w .boss) (mailAt (w .post) k .sender) (mailAt (w .post) k .letter) (mailAt (w .post) k .kind) room .taking)
 
@@ -76,9 +82,17 @@ about (flushes w i boss l) = getD (helperAt (w .helpers) i .letters) (seekWaitin
 about (comes w k i boss h p f r l e) = mailAt (w .post) k .letter .number
 about (returns w k room b p f r e) = mailAt (w .post) k .letter .number
 
+-- all that is of a letter is as it was
+pub record Untouched (v u : View) : Type 0 where
+  pub live : u .live ≡ v .live
+  pub given : u .given ≡ v .given
+  pub back : u .back ≡ v .back
+  pub holdings : u .holdings ≡ v .holdings
+  pub post : u .post ≡ v .post
+
 -- Letters do not disturb each other.
 abbrev pub LettersApart : Type 0
-LettersApart = (w v : World) → Reach w → (s : Step w v) → (letter : ℕ) → 1 ≤ letter → (about s ≡ letter → ⊥) → view letter v ≡ view letter w
+LettersApart = (w v : World) → Reach w → (s : Step w v) → (letter : ℕ) → 1 ≤ letter → (about s ≡ letter → ⊥) → Untouched (view letter w) (view letter v)
 
 -- Nobody comes to be at work but by work that was under way to it.
 abbrev pub OnlyWorkWakes : Type 0
