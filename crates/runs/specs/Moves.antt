@@ -1,7 +1,7 @@
 -- The rules of coins for one letter, each by itself: what may happen to a letter, and nothing else may.
 use Prim.Native.Nat.{ℕ, _+_, _/_, _<_, _≤_}
 use mathlib.Core.Path.{_≡_}
-use mathlib.Core.Bool.{true, false}
+use mathlib.Core.Bool.{Bool, true, false}
 use mathlib.Core.List.{List, [], _∷_, _++_}
 use lib.ListN.{length, set}
 use Rattle.coins.specs.declared.mail.Kind.{Kind}
@@ -77,3 +77,36 @@ pub data Move : View → View → Type 0 where
   -- a number that was never given is passed over when one above it is opened: it will not be given any more
   skips : (v : View) → v .live ≡ false →
     Move v (record { live = false; done = true; given = v .given; back = v .back; holdings = v .holdings; post = v .post })
+
+-- whether a move gives work from the boss, and how many messages come by it
+abbrev pub isGiving : {v u : View} → Move v u → Bool
+isGiving (gives v m nd few to) = true
+isGiving (takes v m c a b e to) = false
+isGiving (shares v m i l bz co to) = false
+isGiving (asks v m i bz to) = false
+isGiving (rests v m i bz to) = false
+isGiving (flushes v m i bz to) = false
+isGiving (keeps v m c a b e to) = false
+isGiving (declines v m n c a b e to id bk) = false
+isGiving (hears v m a b e to) = false
+isGiving (grants v m n a b e from lv few to k) = false
+isGiving (denies v m n a b e from to k) = false
+isGiving (returns v m c a b e to k) = false
+isGiving (says v lv eq) = false
+isGiving (skips v lv) = false
+
+abbrev pub coming : {v u : View} → Move v u → ℕ
+coming (gives v m nd few to) = 0
+coming (takes v m c a b e to) = 1
+coming (shares v m i l bz co to) = 0
+coming (asks v m i bz to) = 0
+coming (rests v m i bz to) = 0
+coming (flushes v m i bz to) = 0
+coming (keeps v m c a b e to) = 1
+coming (declines v m n c a b e to id bk) = 1
+coming (hears v m a b e to) = 1
+coming (grants v m n a b e from lv few to k) = 1
+coming (denies v m n a b e from to k) = 1
+coming (returns v m c a b e to k) = 1
+coming (says v lv eq) = 0
+coming (skips v lv) = 0
