@@ -1,0 +1,72 @@
+-- Laws of what is counted over messages and over helpers, and of one helper's change.
+use Prim.Native.Nat.{ℕ, zero, suc, _+_, _<_, _≤_}
+use mathlib.Core.Path.{_≡_, refl}
+use mathlib.Core.List.{List, [], _∷_, _++_}
+use native.Mathlib.Omega.{arith}
+use lib.ListN.{length, set}
+use Rattle.std.specs.shelf.Lists.{sumBy, All}
+use Rattle.std.proofs.shelf.Sums.{sumBy-cons, sumBy-push, sumBy-set, getD-le-sumBy}
+use Rattle.coins.specs.declared.mail.Kind.{Kind}
+use Rattle.coins.specs.declared.mail.Mail.{Mail}
+use Rattle.coins.specs.declared.holding.Holding.{Holding}
+use Rattle.coins.specs.Mails.{coinsIn}
+use Rattle.coins.specs.Holdings.{idle}
+use Rattle.runs.specs.System.{mailAt}
+use Rattle.runs.specs.Letter.{holdingAt, held, underWay, weigh, delay, mailed, delayed}
+
+-- a message in the midst, over the rest
+pub sum-split : {X : Type 0} (f : X → ℕ) (a b : List X) (x : X) → sumBy f (a ++ x ∷ b) ≡ f x + sumBy f (a ++ b)
+sum-split f [] b x = sumBy-cons f x b
+sum-split f (y ∷ a) b x = omega (arith, sumBy-cons f y (a ++ x ∷ b), sumBy-cons f y (a ++ b), sum-split f a b x)
+
+pub all-split : {X : Type 0} (P : X → Type 0) (a b : List X) (x : X) → All P (a ++ x ∷ b) → P x × All P (a ++ b)
+all-split P [] b x h = h
+all-split P (y ∷ a) b x h = let r = all-split P a b x (h .1) in (r .0, (h .0, r .1))
+
+module _ (m : Mail) (k : Kind) (e : m .kind ≡ k) where
+  pub under-push : (ms : List Mail) → underWay (ms ++ m ∷ []) ≡ underWay ms + coinsIn k
+  unfolding underWay
+  under-push ms = rw (← e) (sumBy-push (λ x. coinsIn (x .kind)) ms m)
+
+  pub under-split : (a b : List Mail) → underWay (a ++ m ∷ b) ≡ coinsIn k + underWay (a ++ b)
+  unfolding underWay
+  under-split a b = rw (← e) (sum-split (λ x. coinsIn (x .kind)) a b m)
+
+  pub mailed-push : (ms : List Mail) → mailed (ms ++ m ∷ []) ≡ mailed ms + weigh k
+  unfolding mailed
+  mailed-push ms = rw (← e) (sumBy-push (λ x. weigh (x .kind)) ms m)
+
+  pub mailed-split : (a b : List Mail) → mailed (a ++ m ∷ b) ≡ weigh k + mailed (a ++ b)
+  unfolding mailed
+  mailed-split a b = rw (← e) (sum-split (λ x. weigh (x .kind)) a b m)
+
+pub under-at : (ms : List Mail) (k : ℕ) → k < length ms → coinsIn (mailAt ms k .kind) ≤ underWay ms
+unfolding underWay
+under-at ms k lt = getD-le-sumBy (λ m. coinsIn (m .kind)) ms k _ lt
+
+pub held-set : (hs : List Holding) (i : ℕ) (x : Holding) → i < length hs → held (set hs i x) + holdingAt hs i .coins ≡ held hs + x .coins
+unfolding held
+held-set hs i x lt = sumBy-set (λ h. h .coins) hs i x idle lt
+
+pub delayed-set : (hs : List Holding) (i : ℕ) (x : Holding) → i < length hs → delayed (set hs i x) + delay (holdingAt hs i) ≡ delayed hs + delay x
+unfolding delayed
+delayed-set hs i x lt = sumBy-set delay hs i x idle lt
+
+pub held-at : (hs : List Holding) (i : ℕ) → holdingAt hs i .coins ≤ held hs
+unfolding held
+held-at [] i = omega arith
+held-at (h ∷ hs) zero = omega (arith, sumBy-cons (λ x. x .coins) h hs)
+held-at (h ∷ hs) (suc i) = omega (arith, sumBy-cons (λ x. x .coins) h hs, held-at hs i)
+
+pub held-none : (hs : List Holding) → ((i : ℕ) → holdingAt hs i .coins ≡ 0) → held hs ≡ 0
+unfolding held
+held-none [] none = refl
+held-none (h ∷ hs) none = omega (arith, sumBy-cons (λ x. x .coins) h hs, none 0, held-none hs (λ i. none (suc i)))
+
+-- what holds of the new state of helper i and of each old one holds of each after the change
+pub set-each : (P : ℕ → Holding → Type 0) (hs : List Holding) (i : ℕ) (x : Holding) → P i x → ((j : ℕ) → P j (holdingAt hs j)) → (j : ℕ) → P j (holdingAt (set hs i x) j)
+set-each P [] i x new old j = old j
+set-each P (h ∷ hs) zero x new old zero = new
+set-each P (h ∷ hs) zero x new old (suc j) = old (suc j)
+set-each P (h ∷ hs) (suc i) x new old zero = old 0
+set-each P (h ∷ hs) (suc i) x new old (suc j) = set-each (λ k. P (suc k)) hs i x new (λ k. old (suc k)) j

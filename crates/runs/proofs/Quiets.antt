@@ -1,0 +1,1 @@
+-- A letter on which nobody is at work.

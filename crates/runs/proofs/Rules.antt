@@ -1,0 +1,139 @@
+-- What holds of a letter by its rules, one after another.
+use Prim.Native.Nat.{ℕ, _+_, _/_, _<_, _≤_}
+use mathlib.Core.Path.{_≡_, refl, sym, ap, subst}
+use mathlib.Core.Bool.{Bool, true, false}
+use mathlib.Core.List.{List, [], _∷_, _++_}
+use native.Mathlib.Omega.{arith}
+use lib.ListN.{length, set, length-set}
+use Rattle.std.specs.shelf.Lists.{All}
+use Rattle.std.proofs.shelf.Elements.{all-push}
+use Rattle.std.proofs.shelf.Lists.{length-append, getD-at}
+use Rattle.std.proofs.shelf.Ways.{tells}
+use Rattle.coins.specs.declared.mail.Kind.{Kind}
+use Rattle.coins.specs.declared.mail.Kind.the-variants.{Work, More, Back, NoMore, Ask}
+use Rattle.coins.specs.declared.mail.Mail.{Mail}
+use Rattle.coins.specs.declared.holding.Holding.{Holding}
+use Rattle.coins.specs.Limits.{grant, limit, bossNumber}
+use Rattle.coins.specs.Mails.{coinsIn}
+use Rattle.coins.specs.Holdings.{idle, took, kept, waiting, answered, waits}
+use Rattle.runs.specs.System.{mailAt}
+use Rattle.runs.specs.Letter.{View, holdingAt, isWork, held, underWay}
+use Rattle.runs.specs.Moves.{Move, ToHelper, ToBoss, nowHas, nowCounts, gives, takes, shares, asks, rests, flushes, keeps, declines, hears, grants, denies, returns, says}
+use Rattle.runs.proofs.Counts.{all-split, under-push, under-split, held-set, set-each}
+
+-- of n helpers: a message is for one of them or for the boss, as its kind is, and has coins where they belong
+abbrev pub FineKind : ℕ → Mail → Kind → Type 0
+FineKind n m (Work c) = (m .receiver .number < n) × (1 ≤ c)
+FineKind n m (More c) = (m .receiver .number < n) × (1 ≤ c)
+FineKind n m (Back c) = (m .receiver .number ≡ bossNumber) × (1 ≤ c)
+FineKind n m NoMore = m .receiver .number < n
+FineKind n m Ask = (m .receiver .number ≡ bossNumber) × (m .sender .number < n)
+
+abbrev pub Fine : ℕ → Mail → Type 0
+Fine n m = FineKind n m (m .kind)
+
+abbrev pub AllFine : View → List Mail → Type 0
+AllFine v ms = All (Fine (length (v .holdings))) ms
+
+pub record Inv (v : View) : Type 0 where
+  pub kept : v .given ≡ v .back + (held (v .holdings) + underWay (v .post))
+  pub good : (i : ℕ) → holdingAt (v .holdings) i .working ≡ true → 1 ≤ holdingAt (v .holdings) i .coins
+  pub fine : AllFine v (v .post)
+  pub shut : v .live ≡ false → (v .given ≡ 0) × (v .back ≡ 0)
+  pub over : v .done ≡ true → v .live ≡ false
+  pub few : v .given < limit
+
+true-false : {A : Type 0} → true ≡ false → A
+true-false e = let z : _≡_ {A = ℕ} 0 1 = cc in absurd (omega arith)
+
+-- a message of the post, and what is left of it
+record Came (v : View) (m : Mail) (k : Kind) (rest : List Mail) : Type 0 where
+  one : FineKind (length (v .holdings)) m k
+  others : AllFine v rest
+  sum : underWay (v .post) ≡ coinsIn k + underWay rest
+
+came : {v : View} (m : Mail) {k : Kind} (a b : List Mail) → Inv v → v .post ≡ a ++ m ∷ b → m .kind ≡ k → Came v m k (a ++ b)
+came {v} m {k} a b I e f =
+    let F : Fine (length (v .holdings)) m × AllFine v (a ++ b) = all-split (Fine (length (v .holdings))) a b m (rw e at (I .fine)) in
+    record { one = rw f at (F .0); others = F .1; sum = rw e (under-split m k f a b) }
+
+-- the post with one message more
+record Sent (v : View) (k : Kind) (was now : List Mail) : Type 0 where
+  all : AllFine v now
+  sum : underWay now ≡ underWay was + coinsIn k
+
+sent : (v : View) (m : Mail) {k : Kind} (ms : List Mail) → AllFine v ms → m .kind ≡ k → FineKind (length (v .holdings)) m k → Sent v k ms (ms ++ m ∷ [])
+sent v m {k} ms F e f =
+    record { all = all-push (Fine (length (v .holdings))) ms m F (rw e f); sum = under-push m k e ms }
+
+-- a helper's coins and those under way change for each other
+has : {v : View} (i : ℕ) (x : Holding) (ms : List Mail) → Inv v → i < length (v .holdings) → AllFine v ms →
+    x .coins + underWay ms ≡ holdingAt (v .holdings) i .coins + underWay (v .post) →
+    (x .working ≡ true → 1 ≤ x .coins) → Inv (nowHas v i x ms)
+has {v} i x ms I lt F same paid =
+    record
+      { kept = omega (arith, I .kept, held-set (v .holdings) i x lt)
+      ; good = set-each (λ j h. h .working ≡ true → 1 ≤ h .coins) (v .holdings) i x paid (I .good)
+      ; fine = subst (λ n. All (Fine n) ms) (sym (length-set (v .holdings) i x)) F
+      ; shut = I .shut
+      ; over = I .over
+      ; few = I .few
+      }
+
+-- the boss's counts change with the coins under way
+counts : {v : View} (given back : ℕ) (ms : List Mail) → Inv v → AllFine v ms →
+    given + (v .back + underWay (v .post)) ≡ v .given + (back + underWay ms) →
+    (v .live ≡ false → (given ≡ 0) × (back ≡ 0)) → given < limit → Inv (nowCounts v given back ms)
+counts given back ms I F same shut few =
+    record { kept = omega (arith, I .kept); good = I .good; fine = F; shut = shut; over = I .over; few = few }
+
+pub next : {w v : View} → Move w v → Inv w → Inv v
+next (gives v m nd lt h) I =
+    let s = sent v m (v .post) (I .fine) (h .1) (h .0, omega arith) in
+    record
+      { kept = omega (arith, I .kept, s .sum)
+      ; good = I .good
+      ; fine = s .all
+      ; shut = λ e. true-false (cc)
+      ; over = λ e. true-false (cc)
+      ; few = lt
+      }
+next (takes v m c a b e h) I = let r = came m a b I e (h .1) in has _ _ (a ++ b) I (h .0) (r .others) (omega arith) (λ _. omega arith)
+next (shares v m i lt w le h) I =
+    let s = sent v m (v .post) (I .fine) (h .1) (h .0, omega arith) in
+    has i _ _ I lt (s .all) (omega arith) (λ _. omega arith)
+next (asks v m i w h) I =
+    let s = sent v m (v .post) (I .fine) (h .3) (h .2, omega arith) in
+    has i _ _ I (h .0) (s .all) (omega arith) (I .good i)
+next (rests v m i w h) I =
+    let s = sent v m (v .post) (I .fine) (h .3) (h .2, I .good i w) in
+    has i _ _ I (h .0) (s .all) (omega arith) (λ e. true-false (cc))
+next (flushes v m i w h) I =
+    let s = sent v m (v .post) (I .fine) (h .3) (h .2, grind (arith, tells)) in
+    has i _ _ I (h .0) (s .all) (omega arith) (λ e. true-false (cc))
+next (keeps v m c a b e h) I = let r = came m a b I e (h .1) in has _ _ (a ++ b) I (h .0) (r .others) (omega arith) (λ _. omega arith)
+next (declines v m n c a b e h w g) I =
+    let r = came m a b I e (h .1) in
+    let s = sent v n (a ++ b) (r .others) (g .3) (g .2, omega arith) in
+    has _ _ _ I (h .0) (s .all) (omega arith) (λ e. true-false (cc))
+next (hears v m a b e h) I = let r = came m a b I e (h .1) in has _ _ (a ++ b) I (h .0) (r .others) (omega arith) (λ w. omega (arith, I .good _ w))
+next (grants v m n a b e h l lt to k) I =
+    let r = came m a b I e (h .3) in
+    let s = sent v n (a ++ b) (r .others) k (omega arith, omega arith) in
+    counts _ _ _ I (s .all) (omega arith) (λ f. true-false (cc)) lt
+next (denies v m n a b e h to k) I =
+    let r = came m a b I e (h .3) in
+    let s = sent v n (a ++ b) (r .others) k (omega arith) in
+    counts _ _ _ I (s .all) (omega arith) (I .shut) (I .few)
+next (returns v m c a b e to k) I =
+    let r = came m a b I e k in
+    counts _ _ _ I (r .others) (omega arith) (λ f. let z = I .shut f in omega (arith, I .kept)) (I .few)
+next (says v l e) I =
+    record
+      { kept = omega (arith, I .kept)
+      ; good = I .good
+      ; fine = I .fine
+      ; shut = λ _. (refl, refl)
+      ; over = λ _. refl
+      ; few = omega arith
+      }
