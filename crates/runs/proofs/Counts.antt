@@ -1,6 +1,7 @@
 -- Laws of what is counted over messages and over helpers, and of one helper's change.
 use Prim.Native.Nat.{ℕ, zero, suc, _+_, _<_, _≤_}
 use mathlib.Core.Path.{_≡_, refl}
+use mathlib.Core.Bool.{Bool, true, false}
 use mathlib.Core.List.{List, [], _∷_, _++_}
 use native.Mathlib.Omega.{arith}
 use lib.ListN.{length, set}
@@ -13,6 +14,13 @@ use Rattle.coins.specs.Mails.{coinsIn}
 use Rattle.coins.specs.Holdings.{idle}
 use Rattle.runs.specs.System.{mailAt}
 use Rattle.runs.specs.Letter.{holdingAt, held, underWay, weigh, delay, mailed, delayed}
+
+pub clash : {A : Type 0} {b : Bool} → b ≡ true → b ≡ false → A
+clash t f = let z : _≡_ {A = ℕ} 0 1 = cc in absurd (omega arith)
+
+pub not-true : (b : Bool) → (b ≡ true → ⊥) → b ≡ false
+not-true true f = absurd (f refl)
+not-true false f = refl
 
 -- a message in the midst, over the rest
 pub sum-split : {X : Type 0} (f : X → ℕ) (a b : List X) (x : X) → sumBy f (a ++ x ∷ b) ≡ f x + sumBy f (a ++ b)
@@ -40,9 +48,9 @@ module _ (m : Mail) (k : Kind) (e : m .kind ≡ k) where
   unfolding mailed
   mailed-split a b = rw (← e) (sum-split (λ x. weigh (x .kind)) a b m)
 
-pub under-at : (ms : List Mail) (k : ℕ) → k < length ms → coinsIn (mailAt ms k .kind) ≤ underWay ms
+pub under-member : (ms : List Mail) (k : ℕ) → k < length ms → coinsIn (mailAt ms k .kind) ≤ underWay ms
 unfolding underWay
-under-at ms k lt = getD-le-sumBy (λ m. coinsIn (m .kind)) ms k _ lt
+under-member ms k lt = getD-le-sumBy (λ m. coinsIn (m .kind)) ms k _ lt
 
 pub held-set : (hs : List Holding) (i : ℕ) (x : Holding) → i < length hs → held (set hs i x) + holdingAt hs i .coins ≡ held hs + x .coins
 unfolding held
@@ -52,11 +60,11 @@ pub delayed-set : (hs : List Holding) (i : ℕ) (x : Holding) → i < length hs 
 unfolding delayed
 delayed-set hs i x lt = sumBy-set delay hs i x idle lt
 
-pub held-at : (hs : List Holding) (i : ℕ) → holdingAt hs i .coins ≤ held hs
+pub held-member : (hs : List Holding) (i : ℕ) → holdingAt hs i .coins ≤ held hs
 unfolding held
-held-at [] i = omega arith
-held-at (h ∷ hs) zero = omega (arith, sumBy-cons (λ x. x .coins) h hs)
-held-at (h ∷ hs) (suc i) = omega (arith, sumBy-cons (λ x. x .coins) h hs, held-at hs i)
+held-member [] i = omega arith
+held-member (h ∷ hs) zero = omega (arith, sumBy-cons (λ x. x .coins) h hs)
+held-member (h ∷ hs) (suc i) = omega (arith, sumBy-cons (λ x. x .coins) h hs, held-member hs i)
 
 pub held-none : (hs : List Holding) → ((i : ℕ) → holdingAt hs i .coins ≡ 0) → held hs ≡ 0
 unfolding held

@@ -6,7 +6,7 @@ use mathlib.Core.List.{List, [], _∷_, _++_}
 use native.Mathlib.Omega.{arith}
 use lib.ListN.{length, set, length-set}
 use Rattle.std.specs.shelf.Lists.{All}
-use Rattle.std.proofs.shelf.Elements.{all-push}
+use Rattle.std.proofs.shelf.Elements.{all-push, all-getD, all-from-getD}
 use Rattle.std.proofs.shelf.Lists.{length-append, getD-at}
 use Rattle.std.proofs.shelf.Ways.{tells}
 use Rattle.coins.specs.declared.mail.Kind.{Kind}
@@ -16,10 +16,11 @@ use Rattle.coins.specs.declared.holding.Holding.{Holding}
 use Rattle.coins.specs.Limits.{grant, limit, bossNumber}
 use Rattle.coins.specs.Mails.{coinsIn}
 use Rattle.coins.specs.Holdings.{idle, took, kept, waiting, answered, waits}
-use Rattle.runs.specs.System.{mailAt}
-use Rattle.runs.specs.Letter.{View, holdingAt, isWork, held, underWay}
+use Rattle.runs.specs.System.{mailAt, noMail}
+use Rattle.runs.specs.Letter.{View, holdingAt, isWork, Quiet, held, underWay}
 use Rattle.runs.specs.Moves.{Move, ToHelper, ToBoss, nowHas, nowCounts, gives, takes, shares, asks, rests, flushes, keeps, declines, hears, grants, denies, returns, says}
-use Rattle.runs.proofs.Counts.{all-split, under-push, under-split, held-set, set-each}
+use Rattle.runs.specs.Promise.{Sound}
+use Rattle.runs.proofs.Counts.{clash, not-true, all-split, under-push, under-split, held-set, held-member, under-member, set-each}
 
 -- of n helpers: a message is for one of them or for the boss, as its kind is, and has coins where they belong
 abbrev pub FineKind : ℕ → Mail → Kind → Type 0
@@ -42,9 +43,6 @@ pub record Inv (v : View) : Type 0 where
   pub shut : v .live ≡ false → (v .given ≡ 0) × (v .back ≡ 0)
   pub over : v .done ≡ true → v .live ≡ false
   pub few : v .given < limit
-
-true-false : {A : Type 0} → true ≡ false → A
-true-false e = let z : _≡_ {A = ℕ} 0 1 = cc in absurd (omega arith)
 
 -- a message of the post, and what is left of it
 record Came (v : View) (m : Mail) (k : Kind) (rest : List Mail) : Type 0 where
@@ -94,8 +92,8 @@ next (gives v m nd lt h) I =
       { kept = omega (arith, I .kept, s .sum)
       ; good = I .good
       ; fine = s .all
-      ; shut = λ e. true-false (cc)
-      ; over = λ e. true-false (cc)
+      ; shut = λ e. clash refl e
+      ; over = λ e. clash e refl
       ; few = lt
       }
 next (takes v m c a b e h) I = let r = came m a b I e (h .1) in has _ _ (a ++ b) I (h .0) (r .others) (omega arith) (λ _. omega arith)
@@ -107,20 +105,20 @@ next (asks v m i w h) I =
     has i _ _ I (h .0) (s .all) (omega arith) (I .good i)
 next (rests v m i w h) I =
     let s = sent v m (v .post) (I .fine) (h .3) (h .2, I .good i w) in
-    has i _ _ I (h .0) (s .all) (omega arith) (λ e. true-false (cc))
+    has i _ _ I (h .0) (s .all) (omega arith) (λ e. clash e refl)
 next (flushes v m i w h) I =
     let s = sent v m (v .post) (I .fine) (h .3) (h .2, grind (arith, tells)) in
-    has i _ _ I (h .0) (s .all) (omega arith) (λ e. true-false (cc))
+    has i _ _ I (h .0) (s .all) (omega arith) (λ e. clash e refl)
 next (keeps v m c a b e h) I = let r = came m a b I e (h .1) in has _ _ (a ++ b) I (h .0) (r .others) (omega arith) (λ _. omega arith)
 next (declines v m n c a b e h w g) I =
     let r = came m a b I e (h .1) in
     let s = sent v n (a ++ b) (r .others) (g .3) (g .2, omega arith) in
-    has _ _ _ I (h .0) (s .all) (omega arith) (λ e. true-false (cc))
+    has _ _ _ I (h .0) (s .all) (omega arith) (λ e. clash e refl)
 next (hears v m a b e h) I = let r = came m a b I e (h .1) in has _ _ (a ++ b) I (h .0) (r .others) (omega arith) (λ w. omega (arith, I .good _ w))
 next (grants v m n a b e h l lt to k) I =
     let r = came m a b I e (h .3) in
     let s = sent v n (a ++ b) (r .others) k (omega arith, omega arith) in
-    counts _ _ _ I (s .all) (omega arith) (λ f. true-false (cc)) lt
+    counts _ _ _ I (s .all) (omega arith) (λ f. clash l f) lt
 next (denies v m n a b e h to k) I =
     let r = came m a b I e (h .3) in
     let s = sent v n (a ++ b) (r .others) k (omega arith) in
@@ -137,3 +135,95 @@ next (says v l e) I =
       ; over = λ _. refl
       ; few = omega arith
       }
+
+-- what the boss has said stays said
+pub stays : {w v : View} → Move w v → w .done ≡ true → v .done ≡ true
+stays (gives v m nd lt h) d = clash d nd
+stays (takes v m c a b e h) d = d
+stays (shares v m i lt w le h) d = d
+stays (asks v m i w h) d = d
+stays (rests v m i w h) d = d
+stays (flushes v m i w h) d = d
+stays (keeps v m c a b e h) d = d
+stays (declines v m n c a b e h w g) d = d
+stays (hears v m a b e h) d = d
+stays (grants v m n a b e h l lt to k) d = d
+stays (denies v m n a b e h to k) d = d
+stays (returns v m c a b e to k) d = d
+stays (says v l e) d = refl
+
+pub as-many : {w v : View} → Move w v → length (v .holdings) ≡ length (w .holdings)
+as-many (gives v m nd lt h) = refl
+as-many (takes v m c a b e h) = simp length-set
+as-many (shares v m i lt w le h) = simp length-set
+as-many (asks v m i w h) = simp length-set
+as-many (rests v m i w h) = simp length-set
+as-many (flushes v m i w h) = simp length-set
+as-many (keeps v m c a b e h) = simp length-set
+as-many (declines v m n c a b e h w g) = simp length-set
+as-many (hears v m a b e h) = simp length-set
+as-many (grants v m n a b e h l lt to k) = refl
+as-many (denies v m n a b e h to k) = refl
+as-many (returns v m c a b e to k) = refl
+as-many (says v l e) = refl
+
+pub coins-at : (v : View) (i : ℕ) → Inv v → holdingAt (v .holdings) i .coins ≤ v .given
+coins-at v i I = omega (arith, I .kept, held-member (v .holdings) i)
+
+-- a helper's coins, those of a message and those that are back are different ones
+pub under-at : (v : View) → Inv v → (k : ℕ) → k < length (v .post) → (i : ℕ) →
+    holdingAt (v .holdings) i .coins + coinsIn (mailAt (v .post) k .kind) + v .back ≤ v .given
+under-at v I k lt i = omega (arith, I .kept, held-member (v .holdings) i, under-member (v .post) k lt)
+
+-- work has a coin
+no-work : (n : ℕ) (m : Mail) (k : Kind) → FineKind n m k → coinsIn k ≡ 0 → isWork k ≡ false
+no-work n m (Work c) f e = absurd (omega arith)
+no-work n m (More c) f e = refl
+no-work n m (Back c) f e = refl
+no-work n m NoMore f e = refl
+no-work n m Ask f e = refl
+
+-- where all coins are back, who were at work would have one, and so would work under way
+pub sound : (v : View) → Inv v → Sound v
+sound v I = record { quiet = quiet; kept = I .kept; paid = I .good }
+  where
+    quiet : v .done ≡ true → Quiet v
+    quiet d =
+        let z = I .shut (I .over d) in
+        record
+          { nobody = λ i. not-true _ (λ w. omega (arith, I .good i w, coins-at v i I))
+          ; nothing =
+              all-from-getD (λ m. isWork (m .kind) ≡ false) (v .post) noMail (λ k lt.
+                no-work (length (v .holdings)) (mailAt (v .post) k) _ (all-getD (Fine (length (v .holdings))) (v .post) k noMail lt (I .fine)) (omega (arith, under-at v I k lt 0)))
+          }
+
+-- who comes to be at work by a change of helper i is i, and was not at work
+woken : (hs : List Holding) (i j : ℕ) (x : Holding) → holdingAt hs j .working ≡ false → holdingAt (set hs i x) j .working ≡ true →
+    (i ≡ j) × (x .working ≡ true)
+woken hs i j x =
+    set-each (λ k h. holdingAt hs k .working ≡ false → h .working ≡ true → (i ≡ k) × (x .working ≡ true)) hs i x
+      (λ _ w. (refl, w)) (λ k f w. clash w f) j
+
+asleep : {A : Type 0} (hs : List Holding) (i j : ℕ) (x : Holding) → (x .working ≡ true → holdingAt hs i .working ≡ true) →
+    holdingAt hs j .working ≡ false → holdingAt (set hs i x) j .working ≡ true → A
+asleep hs i j x same f w =
+    let r = woken hs i j x f w in
+    clash (same (r .1)) (rw (r .0) f)
+
+pub wakes : {w v : View} → Move w v → (i : ℕ) → holdingAt (w .holdings) i .working ≡ false → holdingAt (v .holdings) i .working ≡ true →
+    (k : ℕ) × (k < length (w .post)) × (mailAt (w .post) k .receiver .number ≡ i) × (isWork (mailAt (w .post) k .kind) ≡ true)
+wakes (gives v m nd lt h) j f t = clash t f
+wakes (takes v m c a b e h) j f t =
+    let here : mailAt (v .post) (length a) ≡ m = rw e (getD-at a m b noMail (length a) refl) in
+    (length a, rw (e, length-append) (omega arith), rw here (woken (v .holdings) _ j _ f t .0), rw (here, h .1))
+wakes (shares v m i lt w le h) j f t = asleep (v .holdings) i j _ (λ x. x) f t
+wakes (asks v m i w h) j f t = asleep (v .holdings) i j _ (λ x. x) f t
+wakes (rests v m i w h) j f t = asleep (v .holdings) i j _ (λ _. w) f t
+wakes (flushes v m i w h) j f t = asleep (v .holdings) i j _ (λ x. clash x refl) f t
+wakes (keeps v m c a b e h) j f t = asleep (v .holdings) _ j _ (λ x. x) f t
+wakes (declines v m n c a b e h w g) j f t = asleep (v .holdings) _ j _ (λ x. clash x refl) f t
+wakes (hears v m a b e h) j f t = asleep (v .holdings) _ j _ (λ x. x) f t
+wakes (grants v m n a b e h l lt to k) j f t = clash t f
+wakes (denies v m n a b e h to k) j f t = clash t f
+wakes (returns v m c a b e to k) j f t = clash t f
+wakes (says v l e) j f t = clash t f
