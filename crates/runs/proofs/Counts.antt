@@ -6,7 +6,9 @@ use mathlib.Core.List.{List, [], _∷_, _++_}
 use native.Mathlib.Omega.{arith}
 use lib.ListN.{length, set}
 use Rattle.std.specs.shelf.Lists.{sumBy, All}
-use Rattle.std.proofs.shelf.Sums.{sumBy-cons, sumBy-push, sumBy-set, getD-le-sumBy}
+use Rattle.std.proofs.shelf.Elements.{all-push}
+use Rattle.std.proofs.shelf.Lists.{append-nil}
+use Rattle.std.proofs.shelf.Sums.{sumBy-cons, sumBy-set, getD-le-sumBy}
 use Rattle.coins.specs.declared.mail.Kind.{Kind}
 use Rattle.coins.specs.declared.mail.Mail.{Mail}
 use Rattle.coins.specs.declared.holding.Holding.{Holding}
@@ -22,31 +24,49 @@ pub not-true : (b : Bool) → (b ≡ true → ⊥) → b ≡ false
 not-true true f = absurd (f refl)
 not-true false f = refl
 
--- a message in the midst, over the rest
-pub sum-split : {X : Type 0} (f : X → ℕ) (a b : List X) (x : X) → sumBy f (a ++ x ∷ b) ≡ f x + sumBy f (a ++ b)
+-- with one element in the midst, and without it
+sum-split : {X : Type 0} (f : X → ℕ) (a b : List X) (x : X) → sumBy f (a ++ x ∷ b) ≡ f x + sumBy f (a ++ b)
 sum-split f [] b x = sumBy-cons f x b
 sum-split f (y ∷ a) b x = omega (arith, sumBy-cons f y (a ++ x ∷ b), sumBy-cons f y (a ++ b), sum-split f a b x)
 
-pub all-split : {X : Type 0} (P : X → Type 0) (a b : List X) (x : X) → All P (a ++ x ∷ b) → P x × All P (a ++ b)
+all-split : {X : Type 0} (P : X → Type 0) (a b : List X) (x : X) → All P (a ++ x ∷ b) → P x × All P (a ++ b)
 all-split P [] b x h = h
 all-split P (y ∷ a) b x h = let r = all-split P a b x (h .1) in (r .0, (h .0, r .1))
 
-module _ (m : Mail) (k : Kind) (e : m .kind ≡ k) where
-  pub under-push : (ms : List Mail) → underWay (ms ++ m ∷ []) ≡ underWay ms + coinsIn k
-  unfolding underWay
-  under-push ms = rw (← e) (sumBy-push (λ x. coinsIn (x .kind)) ms m)
+-- Messages, one of them apart: all pass a test P that goes by kinds, and are counted by kinds.
+pub record Apart (P : Mail → Kind → Type 0) (f : Kind → ℕ) (count : List Mail → ℕ) (m : Mail) (k : Kind) (rest whole : List Mail) : Type 0 where
+  pub one : P m k
+  pub others : All (λ x. P x (x .kind)) rest
+  pub all : All (λ x. P x (x .kind)) whole
+  pub sum : count whole ≡ f k + count rest
 
-  pub under-split : (a b : List Mail) → underWay (a ++ m ∷ b) ≡ coinsIn k + underWay (a ++ b)
-  unfolding underWay
-  under-split a b = rw (← e) (sum-split (λ x. coinsIn (x .kind)) a b m)
+module _ (P : Mail → Kind → Type 0) (f : Kind → ℕ) (count : List Mail → ℕ)
+    (adds : (m : Mail) (a b : List Mail) → count (a ++ m ∷ b) ≡ f (m .kind) + count (a ++ b)) where
+  -- one is taken out
+  pub took-out : (m : Mail) (k : Kind) (ms a b : List Mail) → All (λ x. P x (x .kind)) ms → ms ≡ a ++ m ∷ b → m .kind ≡ k →
+      Apart P f count m k (a ++ b) ms
+  took-out m k ms a b F e h =
+      let r = all-split (λ x. P x (x .kind)) a b m (rw e at F) in
+      record { one = rw (← h) (r .0); others = r .1; all = F; sum = rw (e, ← h) (adds m a b) }
 
-  pub mailed-push : (ms : List Mail) → mailed (ms ++ m ∷ []) ≡ mailed ms + weigh k
-  unfolding mailed
-  mailed-push ms = rw (← e) (sumBy-push (λ x. weigh (x .kind)) ms m)
+  -- one is put behind
+  pub put-in : (m : Mail) (k : Kind) (ms : List Mail) → All (λ x. P x (x .kind)) ms → m .kind ≡ k → P m k →
+      Apart P f count m k ms (ms ++ m ∷ [])
+  put-in m k ms F h p =
+      record {
+        one = p;
+        others = F;
+        all = all-push (λ x. P x (x .kind)) ms m F (rw (← h) at p);
+        sum = rw (← h) (rw (append-nil ms) at (adds m ms []));
+      }
 
-  pub mailed-split : (a b : List Mail) → mailed (a ++ m ∷ b) ≡ weigh k + mailed (a ++ b)
-  unfolding mailed
-  mailed-split a b = rw (← e) (sum-split (λ x. weigh (x .kind)) a b m)
+pub under-split : (m : Mail) (a b : List Mail) → underWay (a ++ m ∷ b) ≡ coinsIn (m .kind) + underWay (a ++ b)
+unfolding underWay
+under-split m a b = sum-split (λ x. coinsIn (x .kind)) a b m
+
+pub mailed-split : (m : Mail) (a b : List Mail) → mailed (a ++ m ∷ b) ≡ weigh (m .kind) + mailed (a ++ b)
+unfolding mailed
+mailed-split m a b = sum-split (λ x. weigh (x .kind)) a b m
 
 pub under-member : (ms : List Mail) (k : ℕ) → k < length ms → coinsIn (mailAt ms k .kind) ≤ underWay ms
 unfolding underWay
@@ -72,7 +92,8 @@ held-none [] none = refl
 held-none (h ∷ hs) none = omega (arith, sumBy-cons (λ x. x .coins) h hs, none 0, held-none hs (λ i. none (suc i)))
 
 -- what holds of the new state of helper i and of each old one holds of each after the change
-pub set-each : (P : ℕ → Holding → Type 0) (hs : List Holding) (i : ℕ) (x : Holding) → P i x → ((j : ℕ) → P j (holdingAt hs j)) → (j : ℕ) → P j (holdingAt (set hs i x) j)
+pub set-each : (P : ℕ → Holding → Type 0) (hs : List Holding) (i : ℕ) (x : Holding) → P i x → ((j : ℕ) → P j (holdingAt hs j)) →
+    (j : ℕ) → P j (holdingAt (set hs i x) j)
 set-each P [] i x new old j = old j
 set-each P (h ∷ hs) zero x new old zero = new
 set-each P (h ∷ hs) zero x new old (suc j) = old (suc j)

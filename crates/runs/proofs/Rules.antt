@@ -1,26 +1,25 @@
 -- What holds of a letter by its rules, one after another.
-use Prim.Native.Nat.{ℕ, _+_, _/_, _<_, _≤_}
-use mathlib.Core.Path.{_≡_, refl, sym, ap, subst}
-use mathlib.Core.Bool.{Bool, true, false}
+use Prim.Native.Nat.{ℕ, _+_, _<_, _≤_}
+use mathlib.Core.Path.{_≡_, refl, sym, subst}
+use mathlib.Core.Bool.{true, false}
 use mathlib.Core.List.{List, [], _∷_, _++_}
 use native.Mathlib.Omega.{arith}
 use lib.ListN.{length, set, length-set}
 use Rattle.std.specs.shelf.Lists.{All}
-use Rattle.std.proofs.shelf.Elements.{all-push, all-getD, all-from-getD}
+use Rattle.std.proofs.shelf.Elements.{all-getD, all-from-getD}
 use Rattle.std.proofs.shelf.Lists.{length-append, getD-at}
 use Rattle.std.proofs.shelf.Ways.{tells}
 use Rattle.coins.specs.declared.mail.Kind.{Kind}
 use Rattle.coins.specs.declared.mail.Kind.the-variants.{Work, More, Back, NoMore, Ask}
 use Rattle.coins.specs.declared.mail.Mail.{Mail}
 use Rattle.coins.specs.declared.holding.Holding.{Holding}
-use Rattle.coins.specs.Limits.{grant, limit, bossNumber}
+use Rattle.coins.specs.Limits.{limit, bossNumber}
 use Rattle.coins.specs.Mails.{coinsIn}
-use Rattle.coins.specs.Holdings.{idle, took, kept, waiting, answered, waits}
 use Rattle.runs.specs.System.{mailAt, noMail}
 use Rattle.runs.specs.Letter.{View, holdingAt, isWork, Quiet, held, underWay}
-use Rattle.runs.specs.Moves.{Move, ToHelper, ToBoss, nowHas, nowCounts, gives, takes, shares, asks, rests, flushes, keeps, declines, hears, grants, denies, returns, says}
+use Rattle.runs.specs.Moves.{Move, nowHas, nowCounts, gives, takes, shares, asks, rests, flushes, keeps, declines, hears, grants, denies, returns, says}
 use Rattle.runs.specs.Promise.{Sound}
-use Rattle.runs.proofs.Counts.{clash, not-true, all-split, under-push, under-split, held-set, held-member, under-member, set-each}
+use Rattle.runs.proofs.Counts.{clash, not-true, Apart, took-out, put-in, under-split, held-set, held-member, under-member, set-each}
 
 -- of n helpers: a message is for one of them or for the boss, as its kind is, and has coins where they belong
 abbrev pub FineKind : ℕ → Mail → Kind → Type 0
@@ -44,39 +43,30 @@ pub record Inv (v : View) : Type 0 where
   pub over : v .done ≡ true → v .live ≡ false
   pub few : v .given < limit
 
--- a message of the post, and what is left of it
-record Came (v : View) (m : Mail) (k : Kind) (rest : List Mail) : Type 0 where
-  one : FineKind (length (v .holdings)) m k
-  others : AllFine v rest
-  sum : underWay (v .post) ≡ coinsIn k + underWay rest
+-- a message apart from the others, of those that a post may have
+abbrev Part : View → Mail → Kind → List Mail → List Mail → Type 0
+Part v m k rest whole = Apart (FineKind (length (v .holdings))) coinsIn underWay m k rest whole
 
-came : {v : View} (m : Mail) {k : Kind} (a b : List Mail) → Inv v → v .post ≡ a ++ m ∷ b → m .kind ≡ k → Came v m k (a ++ b)
-came {v} m {k} a b I e f =
-    let F : Fine (length (v .holdings)) m × AllFine v (a ++ b) = all-split (Fine (length (v .holdings))) a b m (rw e at (I .fine)) in
-    record { one = rw f at (F .0); others = F .1; sum = rw e (under-split m k f a b) }
+came : {v : View} (m : Mail) {k : Kind} (a b : List Mail) → Inv v → v .post ≡ a ++ m ∷ b → m .kind ≡ k → Part v m k (a ++ b) (v .post)
+came {v} m {k} a b I e f = took-out (FineKind (length (v .holdings))) coinsIn underWay under-split m k (v .post) a b (I .fine) e f
 
--- the post with one message more
-record Sent (v : View) (k : Kind) (was now : List Mail) : Type 0 where
-  all : AllFine v now
-  sum : underWay now ≡ underWay was + coinsIn k
-
-sent : (v : View) (m : Mail) {k : Kind} (ms : List Mail) → AllFine v ms → m .kind ≡ k → FineKind (length (v .holdings)) m k → Sent v k ms (ms ++ m ∷ [])
-sent v m {k} ms F e f =
-    record { all = all-push (Fine (length (v .holdings))) ms m F (rw e f); sum = under-push m k e ms }
+sent : (v : View) (m : Mail) {k : Kind} (ms : List Mail) → AllFine v ms → m .kind ≡ k → FineKind (length (v .holdings)) m k →
+    Part v m k ms (ms ++ m ∷ [])
+sent v m {k} ms F e f = put-in (FineKind (length (v .holdings))) coinsIn underWay under-split m k ms F e f
 
 -- a helper's coins and those under way change for each other
 has : {v : View} (i : ℕ) (x : Holding) (ms : List Mail) → Inv v → i < length (v .holdings) → AllFine v ms →
     x .coins + underWay ms ≡ holdingAt (v .holdings) i .coins + underWay (v .post) →
     (x .working ≡ true → 1 ≤ x .coins) → Inv (nowHas v i x ms)
 has {v} i x ms I lt F same paid =
-    record
-      { kept = omega (arith, I .kept, held-set (v .holdings) i x lt)
-      ; good = set-each (λ j h. h .working ≡ true → 1 ≤ h .coins) (v .holdings) i x paid (I .good)
-      ; fine = subst (λ n. All (Fine n) ms) (sym (length-set (v .holdings) i x)) F
-      ; shut = I .shut
-      ; over = I .over
-      ; few = I .few
-      }
+    record {
+      kept = omega (arith, I .kept, held-set (v .holdings) i x lt);
+      good = set-each (λ j h. h .working ≡ true → 1 ≤ h .coins) (v .holdings) i x paid (I .good);
+      fine = subst (λ n. All (Fine n) ms) (sym (length-set (v .holdings) i x)) F;
+      shut = I .shut;
+      over = I .over;
+      few = I .few;
+    }
 
 -- the boss's counts change with the coins under way
 counts : {v : View} (given back : ℕ) (ms : List Mail) → Inv v → AllFine v ms →
@@ -85,18 +75,21 @@ counts : {v : View} (given back : ℕ) (ms : List Mail) → Inv v → AllFine v 
 counts given back ms I F same shut few =
     record { kept = omega (arith, I .kept); good = I .good; fine = F; shut = shut; over = I .over; few = few }
 
+-- each rule keeps it
 pub next : {w v : View} → Move w v → Inv w → Inv v
 next (gives v m nd lt h) I =
     let s = sent v m (v .post) (I .fine) (h .1) (h .0, omega arith) in
-    record
-      { kept = omega (arith, I .kept, s .sum)
-      ; good = I .good
-      ; fine = s .all
-      ; shut = λ e. clash refl e
-      ; over = λ e. clash e refl
-      ; few = lt
-      }
-next (takes v m c a b e h) I = let r = came m a b I e (h .1) in has _ _ (a ++ b) I (h .0) (r .others) (omega arith) (λ _. omega arith)
+    record {
+      kept = omega (arith, I .kept, s .sum);
+      good = I .good;
+      fine = s .all;
+      shut = λ e. clash refl e;
+      over = λ e. clash e refl;
+      few = lt;
+    }
+next (takes v m c a b e h) I =
+    let r = came m a b I e (h .1) in
+    has _ _ (a ++ b) I (h .0) (r .others) (omega arith) (λ _. omega arith)
 next (shares v m i lt w le h) I =
     let s = sent v m (v .post) (I .fine) (h .1) (h .0, omega arith) in
     has i _ _ I lt (s .all) (omega arith) (λ _. omega arith)
@@ -109,12 +102,16 @@ next (rests v m i w h) I =
 next (flushes v m i w h) I =
     let s = sent v m (v .post) (I .fine) (h .3) (h .2, grind (arith, tells)) in
     has i _ _ I (h .0) (s .all) (omega arith) (λ e. clash e refl)
-next (keeps v m c a b e h) I = let r = came m a b I e (h .1) in has _ _ (a ++ b) I (h .0) (r .others) (omega arith) (λ _. omega arith)
+next (keeps v m c a b e h) I =
+    let r = came m a b I e (h .1) in
+    has _ _ (a ++ b) I (h .0) (r .others) (omega arith) (λ _. omega arith)
 next (declines v m n c a b e h w g) I =
     let r = came m a b I e (h .1) in
     let s = sent v n (a ++ b) (r .others) (g .3) (g .2, omega arith) in
     has _ _ _ I (h .0) (s .all) (omega arith) (λ e. clash e refl)
-next (hears v m a b e h) I = let r = came m a b I e (h .1) in has _ _ (a ++ b) I (h .0) (r .others) (omega arith) (λ w. omega (arith, I .good _ w))
+next (hears v m a b e h) I =
+    let r = came m a b I e (h .1) in
+    has _ _ (a ++ b) I (h .0) (r .others) (omega arith) (λ w. omega (arith, I .good _ w))
 next (grants v m n a b e h l lt to k) I =
     let r = came m a b I e (h .3) in
     let s = sent v n (a ++ b) (r .others) k (omega arith, omega arith) in
@@ -127,14 +124,14 @@ next (returns v m c a b e to k) I =
     let r = came m a b I e k in
     counts _ _ _ I (r .others) (omega arith) (λ f. let z = I .shut f in omega (arith, I .kept)) (I .few)
 next (says v l e) I =
-    record
-      { kept = omega (arith, I .kept)
-      ; good = I .good
-      ; fine = I .fine
-      ; shut = λ _. (refl, refl)
-      ; over = λ _. refl
-      ; few = omega arith
-      }
+    record {
+      kept = omega (arith, I .kept);
+      good = I .good;
+      fine = I .fine;
+      shut = λ _. (refl, refl);
+      over = λ _. refl;
+      few = omega arith;
+    }
 
 -- what the boss has said stays said
 pub stays : {w v : View} → Move w v → w .done ≡ true → v .done ≡ true
@@ -152,6 +149,7 @@ stays (denies v m n a b e h to k) d = d
 stays (returns v m c a b e to k) d = d
 stays (says v l e) d = refl
 
+-- no helper comes or goes
 pub as-many : {w v : View} → Move w v → length (v .holdings) ≡ length (w .holdings)
 as-many (gives v m nd lt h) = refl
 as-many (takes v m c a b e h) = simp length-set
@@ -167,6 +165,7 @@ as-many (denies v m n a b e h to k) = refl
 as-many (returns v m c a b e to k) = refl
 as-many (says v l e) = refl
 
+-- nobody has more coins than were given
 pub coins-at : (v : View) (i : ℕ) → Inv v → holdingAt (v .holdings) i .coins ≤ v .given
 coins-at v i I = omega (arith, I .kept, held-member (v .holdings) i)
 
@@ -183,34 +182,40 @@ no-work n m (Back c) f e = refl
 no-work n m NoMore f e = refl
 no-work n m Ask f e = refl
 
--- where all coins are back, who were at work would have one, and so would work under way
+-- when the boss has said done there are no coins, and who were at work would have one, and so would work under way
 pub sound : (v : View) → Inv v → Sound v
 sound v I = record { quiet = quiet; kept = I .kept; paid = I .good }
   where
+    idle : (k : ℕ) → k < length (v .post) → coinsIn (mailAt (v .post) k .kind) ≡ 0 → isWork (mailAt (v .post) k .kind) ≡ false
+    idle k lt e =
+        let n = length (v .holdings) in
+        no-work n (mailAt (v .post) k) _ (all-getD (Fine n) (v .post) k noMail lt (I .fine)) e
+
     quiet : v .done ≡ true → Quiet v
     quiet d =
         let z = I .shut (I .over d) in
-        record
-          { nobody = λ i. not-true _ (λ w. omega (arith, I .good i w, coins-at v i I))
-          ; nothing =
-              all-from-getD (λ m. isWork (m .kind) ≡ false) (v .post) noMail (λ k lt.
-                no-work (length (v .holdings)) (mailAt (v .post) k) _ (all-getD (Fine (length (v .holdings))) (v .post) k noMail lt (I .fine)) (omega (arith, under-at v I k lt 0)))
-          }
+        record {
+          nobody = λ i. not-true _ (λ w. omega (arith, I .good i w, coins-at v i I));
+          nothing = all-from-getD (λ m. isWork (m .kind) ≡ false) (v .post) noMail (λ k lt. idle k lt (omega (arith, under-at v I k lt 0)));
+        }
 
--- who comes to be at work by a change of helper i is i, and was not at work
+-- who comes to be at work by a change of helper i is i, by a state that is at work
 woken : (hs : List Holding) (i j : ℕ) (x : Holding) → holdingAt hs j .working ≡ false → holdingAt (set hs i x) j .working ≡ true →
     (i ≡ j) × (x .working ≡ true)
 woken hs i j x =
     set-each (λ k h. holdingAt hs k .working ≡ false → h .working ≡ true → (i ≡ k) × (x .working ≡ true)) hs i x
-      (λ _ w. (refl, w)) (λ k f w. clash w f) j
+    (λ _ w. (refl, w)) (λ k f w. clash w f) j
 
+-- so a change that puts nobody to work wakes nobody
 asleep : {A : Type 0} (hs : List Holding) (i j : ℕ) (x : Holding) → (x .working ≡ true → holdingAt hs i .working ≡ true) →
     holdingAt hs j .working ≡ false → holdingAt (set hs i x) j .working ≡ true → A
 asleep hs i j x same f w =
     let r = woken hs i j x f w in
     clash (same (r .1)) (rw (r .0) f)
 
-pub wakes : {w v : View} → Move w v → (i : ℕ) → holdingAt (w .holdings) i .working ≡ false → holdingAt (v .holdings) i .working ≡ true →
+-- only work that was under way puts somebody to work
+pub wakes : {w v : View} → Move w v → (i : ℕ) → holdingAt (w .holdings) i .working ≡ false →
+    holdingAt (v .holdings) i .working ≡ true →
     (k : ℕ) × (k < length (w .post)) × (mailAt (w .post) k .receiver .number ≡ i) × (isWork (mailAt (w .post) k .kind) ≡ true)
 wakes (gives v m nd lt h) j f t = clash t f
 wakes (takes v m c a b e h) j f t =
