@@ -1,6 +1,7 @@
+pub mod Counts
+pub mod Rules
+pub mod Quiets
 pub mod Tables
 pub mod Holders
 pub mod Books
 pub mod Views
-pub mod Turns
-pub mod Calls
