@@ -7,3 +7,4 @@ pub mod Books
 pub mod Views
 pub mod Turns
 pub mod Calls
+pub mod Comes
