@@ -56,7 +56,7 @@ and-true : (x : Bool) → x && true ≡ x
 and-true true = refl
 and-true false = refl
 
-not-done : (b : Boss) (n : ℕ) → isOpen b n ≡ true → isDone b n ≡ false
+pub not-done : (b : Boss) (n : ℕ) → isOpen b n ≡ true → isDone b n ≡ false
 not-done b n e = rw e (and-false (leb n (b .highest)))
 
 is-done : (b : Boss) (n : ℕ) → isOpen b n ≡ false → n ≤ b .highest → isDone b n ≡ true

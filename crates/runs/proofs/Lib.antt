@@ -8,3 +8,4 @@ pub mod Views
 pub mod Turns
 pub mod Calls
 pub mod Comes
+pub mod Desk
