@@ -9,3 +9,4 @@ pub mod Turns
 pub mod Calls
 pub mod Comes
 pub mod Desk
+pub mod Always
