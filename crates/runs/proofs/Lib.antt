@@ -10,3 +10,4 @@ pub mod Calls
 pub mod Comes
 pub mod Desk
 pub mod Always
+pub mod Welcomes
