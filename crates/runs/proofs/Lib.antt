@@ -11,3 +11,4 @@ pub mod Comes
 pub mod Desk
 pub mod Always
 pub mod Welcomes
+pub mod Theorems
