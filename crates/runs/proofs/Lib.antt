@@ -12,3 +12,4 @@ pub mod Desk
 pub mod Always
 pub mod Welcomes
 pub mod Theorems
+pub mod Queued
