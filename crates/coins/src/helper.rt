@@ -1,6 +1,7 @@
 // A helper: what it does with work and coins of all its letters.
 ghost use mathlib.Core.Path.{_≡_};
 ghost use Prim.Native.Nat.{ℕ, _+_, _-_, _/_, _<_, _≤_};
+ghost use lib.Dec.{ltb};
 ghost use lib.ListN.{length, getD, set};
 ghost use Rattle.coins.specs.Limits.{limit};
 ghost use Rattle.coins.specs.Letters.{place, seek};
@@ -62,6 +63,13 @@ impl Helper {
         } else {
             Holding::idle()
         }
+    }
+
+    // Whether coins of some letter wait for a place.
+    pub fn is_waiting(&self) -> bool
+        ensures { λ r. ⌜ r ≡ ltb (seekWaiting (now (self .entry) .holdings)) 64 ⌝ }
+    {
+        first_waiting(&self.holdings) < LETTERS
     }
 
     // The place that the letter has, or else a free one, or else 64.

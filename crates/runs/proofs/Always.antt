@@ -22,7 +22,7 @@ use Rattle.coins.specs.declared.boss.Boss.{Boss}
 use Rattle.coins.specs.Holdings.{idle}
 use Rattle.coins.specs.Helpers.{newHelper, holdingOf, arriveStep}
 use Rattle.coins.specs.Bosses.{newBoss, isOpen, givenOf, backOf}
-use Rattle.runs.specs.System.{World, crew, start, helperAt, mailAt, noMail, helperDid, without, Step, gives, says, shares, rests, flushes, comes, returns, Reach, begin, then}
+use Rattle.runs.specs.System.{noHelper, World, crew, start, helperAt, mailAt, noMail, helperDid, without, Step, gives, says, shares, rests, flushes, comes, returns, Reach, begin, then}
 use Rattle.runs.specs.Letter.{View, view, isDone, isOf, holdingsOf, postOf, holdingAt, held, underWay}
 use Rattle.runs.specs.Moves.{Move, skips}
 use Rattle.runs.specs.Promise.{Untouched, about}
@@ -122,8 +122,8 @@ unfolding crew
 crew-at zero i l = absurd (omega arith)
 crew-at (suc n) i l =
     elim (eqb-tells i n)
-      [ inl s ↦ getD-push (crew n) (newHelper (record { number = n })) (newHelper (record { number = 0 })) i (crew-length n ∙ sym (s .1)) ∙ ap (λ (k : ℕ). newHelper (record { number = k })) (sym (s .1))
-      | inr s ↦ let ne = s .1 in getD-append-left (crew n) (newHelper (record { number = n }) ∷ []) (newHelper (record { number = 0 })) i (omega (arith, crew-length n)) ∙ crew-at n i (omega arith) ]
+      [ inl s ↦ getD-push (crew n) (newHelper (record { number = n })) noHelper i (crew-length n ∙ sym (s .1)) ∙ ap (λ (k : ℕ). newHelper (record { number = k })) (sym (s .1))
+      | inr s ↦ let ne = s .1 in getD-append-left (crew n) (newHelper (record { number = n }) ∷ []) noHelper i (omega (arith, crew-length n)) ∙ crew-at n i (omega arith) ]
 
 start-order : (n : ℕ) → n ≤ 256 → Order (start n)
 start-order n few =

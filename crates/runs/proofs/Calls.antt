@@ -27,7 +27,7 @@ use Rattle.coins.specs.Limits.{bossNumber}
 use Rattle.coins.specs.Letters.{seek, place}
 use Rattle.coins.specs.Holdings.{idle, kept, waiting, waits}
 use Rattle.coins.specs.Helpers.{Called, Flushed, newHelper, at, holdingOf, write, store, askAt, shareAt, shareStep, restAt, restStep, seekWaiting, flushAt, flushStep}
-use Rattle.runs.specs.System.{World, helperAt, helperDid}
+use Rattle.runs.specs.System.{noHelper, World, helperAt, helperDid}
 use Rattle.runs.specs.Letter.{View, view, isOf, holdingsOf, postOf, holdingAt}
 use Rattle.runs.specs.Moves.{nowHas, ToHelper, ToBoss}
 use Rattle.runs.proofs.Tables.{by-test, placed, seek-apart}
@@ -60,7 +60,7 @@ module _ (w : World) (O : Order w) (i : ℕ) (lt : i < length (w .helpers)) wher
   pub idles : (n : ℕ) → Did n false 0 w (helperDid w i (helperAt (w .helpers) i) Nothing)
   idles n =
       subst (λ (hs : List Helper). Did n false 0 w (record { boss = w .boss; helpers = hs; post = w .post }))
-        (sym (set-getD (w .helpers) i (newHelper (record { number = 0 })))) (nothing-did n false w O)
+        (sym (set-getD (w .helpers) i noHelper)) (nothing-did n false w O)
 
   -- a call that changes the state of a letter, and sends a message of it
   sends : (m : Mail) (x : Holding) (g : Helper) → 1 ≤ m .letter .number → Changed i (m .letter .number) x (helperAt (w .helpers) i) g →

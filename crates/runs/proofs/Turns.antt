@@ -17,7 +17,7 @@ use Rattle.coins.specs.declared.holding.Holding.{Holding}
 use Rattle.coins.specs.declared.boss.Boss.{Boss}
 use Rattle.coins.specs.Holdings.{idle, took, kept, waiting, answered, waits}
 use Rattle.coins.specs.Helpers.{holdingOf, newHelper}
-use Rattle.runs.specs.System.{World, helperAt}
+use Rattle.runs.specs.System.{noHelper, World, helperAt}
 use Rattle.runs.specs.Letter.{View, view, holdingsOf, postOf, holdingAt}
 use Rattle.runs.specs.Moves.{ToHelper, ToBoss, nowHas, Move, takes, shares, asks, rests, flushes, keeps, declines, hears, isGiving, coming}
 use Rattle.runs.specs.Promise.{Untouched}
@@ -66,8 +66,8 @@ module _ (w : World) (O : Order w) where
         few = omega (arith, length-set (w .helpers) i g, O .few);
         boss = O .boss;
         helpers = λ j lj. elim (eqb-tells j i)
-          [ inl s ↦ subst (λ (k : ℕ). holder.Tidy k (helperAt (set (w .helpers) i g) k)) (sym (s .1)) (subst (holder.Tidy i) (sym (getD-set-same (w .helpers) i g (newHelper (record { number = 0 })) lt)) T)
-          | inr s ↦ subst (holder.Tidy j) (sym (getD-set-other (w .helpers) i j g (newHelper (record { number = 0 })) (s .1))) (O .helpers j (omega (arith, length-set (w .helpers) i g))) ];
+          [ inl s ↦ subst (λ (k : ℕ). holder.Tidy k (helperAt (set (w .helpers) i g) k)) (sym (s .1)) (subst (holder.Tidy i) (sym (getD-set-same (w .helpers) i g noHelper lt)) T)
+          | inr s ↦ subst (holder.Tidy j) (sym (getD-set-other (w .helpers) i j g noHelper (s .1))) (O .helpers j (omega (arith, length-set (w .helpers) i g))) ];
         numbered = N
       }
 

@@ -17,7 +17,7 @@ use Rattle.coins.specs.declared.helper.Helper.{Helper}
 use Rattle.coins.specs.declared.holding.Holding.{Holding}
 use Rattle.coins.specs.Holdings.{idle}
 use Rattle.coins.specs.Helpers.{holdingOf, newHelper}
-use Rattle.runs.specs.System.{World, helperAt, mailAt, noMail}
+use Rattle.runs.specs.System.{noHelper, World, helperAt, mailAt, noMail}
 use Rattle.runs.specs.Letter.{View, view, isOf, holdingsOf, postOf, holdingAt}
 use Rattle.runs.proofs.Holders.{new-holding}
 
@@ -31,7 +31,7 @@ held-set n hs i h = map-set (λ h. holdingOf h n) hs i h
 
 pub held-get : (n : ℕ) (hs : List Helper) (i : ℕ) → i < length hs → holdingAt (holdingsOf n hs) i ≡ holdingOf (helperAt hs i) n
 unfolding holdingsOf
-held-get n hs i l = getD-map (λ h. holdingOf h n) hs i (newHelper (record { number = 0 })) idle l
+held-get n hs i l = getD-map (λ h. holdingOf h n) hs i noHelper idle l
 
 pub held-same : (n : ℕ) (hs : List Helper) (i : ℕ) (h : Helper) → i < length hs → holdingOf h n ≡ holdingOf (helperAt hs i) n → holdingsOf n (set hs i h) ≡ holdingsOf n hs
 held-same n hs i h l e = held-set n hs i h ∙ ap (λ (x : Holding). set (holdingsOf n hs) i x) (e ∙ sym (held-get n hs i l)) ∙ set-getD (holdingsOf n hs) i idle

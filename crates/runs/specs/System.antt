@@ -8,7 +8,7 @@ use lib.ListN.{length, getD, set}
 use Rattle.std.specs.Holes.{removed}
 use Rattle.coins.specs.declared.ids.LetterId.{LetterId}
 use Rattle.coins.specs.declared.ids.NodeId.{NodeId}
-use Rattle.coins.specs.declared.mail.Kind.the-variants.{Ask}
+use Rattle.coins.specs.declared.mail.Kind.the-variants.{Work}
 use Rattle.coins.specs.declared.mail.Mail.{Mail}
 use Rattle.coins.specs.declared.mail.Post.{Post}
 use Rattle.coins.specs.declared.mail.Post.the-variants.{Nothing, Send}
@@ -35,11 +35,15 @@ crew (suc n) = crew n ++ newHelper (record { number = n }) ∷ []
 abbrev pub start : ℕ → World
 start n = record { boss = newBoss; helpers = crew n; post = [] }
 
+-- what stands at a number that no helper has
+abbrev pub noHelper : Helper
+noHelper = record { me = record { number = 0 }; letters = []; holdings = [] }
+
 abbrev pub helperAt : List Helper → ℕ → Helper
-helperAt hs i = getD hs i (newHelper (record { number = 0 }))
+helperAt hs i = getD hs i noHelper
 
 abbrev pub noMail : Mail
-noMail = record { sender = record { number = 0 }; receiver = record { number = 0 }; letter = record { number = 0 }; kind = Ask }
+noMail = record { sender = record { number = 0 }; receiver = record { number = 0 }; letter = record { number = 0 }; kind = Work 0 }
 
 abbrev pub mailAt : List Mail → ℕ → Mail
 mailAt ms k = getD ms k noMail

@@ -1,6 +1,7 @@
 // A boss and helpers in memory, and the messages between them: what is played here is a run of the system.
 pub mod command;
+mod lines;
 pub mod parcel;
 pub mod stage;
-pub mod table;
+mod table;
 pub mod work;

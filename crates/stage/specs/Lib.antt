@@ -1,0 +1,5 @@
+pub mod Works
+pub mod Scenes
+pub mod Plays
+pub mod Tables
+pub mod Stages
