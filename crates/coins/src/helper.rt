@@ -53,6 +53,13 @@ impl Helper {
         }
     }
 
+    // Its number.
+    pub fn id(&self) -> NodeId
+        ensures { λ r. ⌜ r ≡ now (self .entry) .me ⌝ }
+    {
+        self.me
+    }
+
     // Its state of a letter.
     pub fn holding(&self, letter: LetterId) -> Holding
         ensures { λ r. ⌜ r ≡ holdingOf (now (self .entry)) (letter .number) ⌝ }

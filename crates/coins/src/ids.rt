@@ -19,7 +19,7 @@ pub const BOSS: u16 = 65535;
 
 impl NodeId {
     pub fn boss() -> NodeId
-        ensures { λ r. ⌜ r .number ≡ bossNumber ⌝ }
+        ensures { λ r. ⌜ r ≡ record { number = bossNumber } ⌝ }
     {
         NodeId { number: BOSS }
     }

@@ -7,12 +7,13 @@ use native.Mathlib.Omega.{arith}
 use lib.Dec.{ltb}
 use lib.ListN.{length, getD, take, drop}
 use Rattle.std.specs.shelf.Lists.{countBy}
-use Rattle.std.proofs.shelf.Lists.{at-drop-more, at-drop-all, take-at, take-all}
+use Rattle.std.proofs.shelf.Lists.{at-drop-more, at-drop-all, take-at, take-all, getD-map, getD-read, length-map}
 use Rattle.std.proofs.shelf.Sums.{countBy-more-yes, countBy-more-no}
 use Rattle.coins.specs.declared.ids.NodeId.{NodeId}
 use Rattle.coins.specs.declared.helper.Helper.{Helper}
 use Rattle.coins.specs.Helpers.{seekWaiting, newHelper}
-use Rattle.runs.specs.System.{noHelper, head, onLine, noMail, helperAt}
+use native.Mathlib.Numerals.{add-one}
+use Rattle.runs.specs.System.{crew, noHelper, head, onLine, noMail, mailAt, helperAt}
 use Rattle.stage.specs.declared.parcel.Parcel.{Parcel}
 use Rattle.stage.specs.Works.{noWork}
 use Rattle.stage.specs.Scenes.{mails, room, seekHelper, seekHolder}
@@ -83,3 +84,19 @@ front xs ys bs e l = ap (λ (k : ℕ). take k (xs ++ ys)) m ∙ take-at xs ys (l
   where
     m : min (length bs) 256 ≡ length bs
     m = omega arith
+
+pub crew-more : (i : ℕ) → crew (i + 1) ≡ crew i ++ newHelper (record { number = i }) ∷ []
+unfolding crew
+crew-more i = rw (add-one i)
+
+pub mails-length : (ps : List Parcel) → length (mails ps) ≡ length ps
+unfolding mails
+mails-length ps = length-map ps (λ (p : Parcel). p .mail)
+
+-- what is read of a parcel, and of a helper
+pub mail-read : (ps : List Parcel) (k : ℕ) (p : Parcel) → k < length ps → p ≡ getD ps k p → mailAt (mails ps) k ≡ p .mail
+unfolding mails
+mail-read ps k p l e = getD-map (λ (q : Parcel). q .mail) ps k p noMail l ∙ ap (λ (q : Parcel). q .mail) (sym e)
+
+pub helper-read : (hs : List Helper) (i : ℕ) (h : Helper) → i < length hs → h ≡ getD hs i h → helperAt hs i ≡ h
+helper-read hs i h l e = sym (getD-read hs i h l e noHelper)

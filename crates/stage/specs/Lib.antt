@@ -2,4 +2,3 @@ pub mod Works
 pub mod Scenes
 pub mod Plays
 pub mod Tables
-pub mod Stages

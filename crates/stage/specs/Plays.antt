@@ -163,7 +163,7 @@ abbrev pub nextOf : Scene → ℕ → ℕ → Option Command
 nextOf s k i =
   cond (ltb k (length (s .parcels))) (Some (passing (mailAt (mails (s .parcels)) k)))
     (cond (ltb 0 (length (s .parcels))) (Some (passing (mailAt (mails (s .parcels)) 0)))
-      (cond (ltb i (length (s .helpers))) (Some (Flush (record { number = i }))) None))
+      (cond (ltb i (length (s .helpers))) (Some (Flush (helperAt (s .helpers) i .me))) None))
 
 abbrev pub next : Scene → Option Command
 next s = nextOf s (seekHelper (s .parcels) (length (s .helpers))) (seekHolder (s .helpers))

@@ -1,7 +1,9 @@
 // What can be played on a stage, and what is replied.
+ghost use mathlib.Core.Path.{_≡_};
 use coins::answer::Answer;
 use coins::ids::LetterId;
 use coins::ids::NodeId;
+use coins::mail::Mail;
 
 #[derive(Clone, Copy)]
 pub enum Command {
@@ -34,6 +36,15 @@ pub enum Command {
     Flush {
         by: NodeId,
     },
+}
+
+impl Command {
+    // The next message on the line of this one comes.
+    pub(crate) fn passing(mail: Mail) -> Command
+        ensures { λ r. ⌜ r ≡ Command.Pass (mail .sender) (mail .receiver) ⌝ }
+    {
+        Command::Pass { sender: mail.sender, receiver: mail.receiver }
+    }
 }
 
 #[derive(Clone, Copy)]
