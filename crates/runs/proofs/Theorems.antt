@@ -1,8 +1,12 @@
 -- The promises.
 use Prim.Native.Nat.{ℕ, zero, suc, _+_, _<_, _≤_}
 use mathlib.Core.Path.{_≡_, refl, sym, ap, subst, _∙_}
-use mathlib.Core.Logic.{_⊎_, inl, inr, ⊎-elim}
-use mathlib.Core.Bool.{Bool, true, false, cond, _&&_, _||_, not}
+use mathlib.Core.Logic.{_⊎_, inl, inr, ⊎-elim, ∥∥₁-elim}
+use mathlib.Core.HLevel.{⊥-prop, Unit-prop}
+use mathlib.Core.Bool.{Bool, true, false, cond, _&&_, _||_, not, Bool-set}
+use native.Mathlib.Bridge.{le-prop}
+use native.Mathlib.Nat.{ℕ-set}
+use Rattle.std.proofs.shelf.Elements.{all-getD, all-from-getD}
 use mathlib.Core.List.{List, [], _∷_, _++_}
 use native.Mathlib.Omega.{arith}
 use lib.Dec.{eqb, ltb, leb}
@@ -25,7 +29,9 @@ use Rattle.coins.specs.Bosses.{Called as BossCalled}
 use Rattle.runs.specs.System.{World, helperAt, mailAt, noMail, Step, gives, says, shares, rests, flushes, comes, returns, Reach, then, Runs, still, onward}
 use Rattle.runs.specs.Letter.{View, view, isDone, isOf, isWork, holdingsOf, postOf, holdingAt, Quiet, toCome}
 use Rattle.runs.specs.Moves.{Move, isGiving, coming}
-use Rattle.runs.specs.Promise.{Laden, Taken, Promised, Promise, DoneStays, StepsAreMoves, about, LettersApart, OnlyWorkWakes, isGive, arrivals, Ungiven, QuietGoesOn, QuietIsShort, QuietIsSaid} 
+use Rattle.coins.specs.declared.mail.Taking.{Taking}
+use Rattle.coins.specs.declared.mail.Taking.the-variants.{Took, Later, Refused}
+use Rattle.runs.specs.Promise.{Laden, Taken, Welcome, Promised, Promise, DoneStays, StepsAreMoves, about, LettersApart, OnlyWorkWakes, isGive, arrivals, Ungiven, QuietGoesOn, QuietIsShort, QuietIsSaid} 
 use Rattle.runs.specs.Promise as promise
 use Rattle.runs.proofs.Tables.{by-test}
 use Rattle.runs.proofs.Counts.{clash}
@@ -44,25 +50,63 @@ laden-kind n m (Back c) f = f .1
 laden-kind n m NoMore f = tt
 laden-kind n m Ask f = tt
 
-addressed-kind : (n : ℕ) (m : Mail) (k : Kind) → FineKind n m k → (m .receiver .number < n) ⊎ (m .receiver .number ≡ bossNumber)
-addressed-kind n m (Work c) f = inl (f .0)
-addressed-kind n m (More c) f = inl (f .0)
-addressed-kind n m (Back c) f = inr (f .0)
-addressed-kind n m NoMore f = inl f
-addressed-kind n m Ask f = inr (f .0)
+addressed-kind : (n : ℕ) (m : Mail) (k : Kind) → FineKind n m k → (m .receiver .number ≡ bossNumber → ⊥) → m .receiver .number < n
+addressed-kind n m (Work c) f no-boss = f .0
+addressed-kind n m (More c) f no-boss = f .0
+addressed-kind n m (Back c) f no-boss = absurd (no-boss (f .0))
+addressed-kind n m NoMore f no-boss = f
+addressed-kind n m Ask f no-boss = absurd (no-boss (f .0))
 
 pub promised : Promise
 promised w r =
     record {
       sound = λ n pos. sound (view n w) (W .inv n pos);
       laden = λ k l. laden-kind _ (mailAt (w .post) k) (mailAt (w .post) k .kind) (fine-at w W k l);
-      addressed = λ k l. subst (λ (n : ℕ). (mailAt (w .post) k .receiver .number < n) ⊎ (mailAt (w .post) k .receiver .number ≡ bossNumber)) (held-length (mailAt (w .post) k .letter .number) (w .helpers)) (addressed-kind _ (mailAt (w .post) k) (mailAt (w .post) k .kind) (fine-at w W k l));
+      addressed = λ k l no-boss. omega (arith, addressed-kind _ (mailAt (w .post) k) (mailAt (w .post) k .kind) (fine-at w W k l) no-boss, held-length (mailAt (w .post) k .letter .number) (w .helpers));
       helped = λ k i boss l e. subst (λ (j : ℕ). j < length (w .helpers) → Taken (arriveStep (helperAt (w .helpers) j) (mailAt (w .post) k .letter) (mailAt (w .post) k .kind) boss .taking)) e (helper-takes w W k l boss);
       received = λ k room l e. boss-takes w W k l room e
     }
   where
     W : Whole w
     W = always r
+
+-- The same, where it is only known that there is a run.
+laden-prop : (k : Kind) → IsProp (Laden k)
+laden-prop (Work c) = le-prop
+laden-prop (More c) = le-prop
+laden-prop (Back c) = le-prop
+laden-prop NoMore = Unit-prop
+laden-prop Ask = Unit-prop
+
+taken-prop : (t : Taking) → IsProp (Taken t)
+taken-prop (Took p) = Unit-prop
+taken-prop Later = ⊥-prop
+taken-prop (Refused why) = ⊥-prop
+
+welcome-prop : (room : ℕ) (t : Taking) → IsProp (Welcome room t)
+welcome-prop room (Took p) = Unit-prop
+welcome-prop room Later = ℕ-set _ _
+welcome-prop room (Refused why) = ⊥-prop
+
+pub promised-of : (w : World) → ∥ Reach w ∥₁ → Promised w
+promised-of w h =
+    record {
+      sound = λ n pos. record {
+        quiet = λ d. record {
+          nobody = λ i. ∥∥₁-elim h (Bool-set _ _) (λ r. promised w r .sound n pos .quiet d .nobody i);
+          nothing = all-from-getD Calm (view n w .post) noMail (λ k l. ∥∥₁-elim h (Bool-set _ _) (λ r. all-getD Calm (view n w .post) k noMail l (promised w r .sound n pos .quiet d .nothing)))
+        };
+        kept = ∥∥₁-elim h (ℕ-set _ _) (λ r. promised w r .sound n pos .kept);
+        paid = λ i b. ∥∥₁-elim h le-prop (λ r. promised w r .sound n pos .paid i b)
+      };
+      laden = λ k l. ∥∥₁-elim h (laden-prop _) (λ r. promised w r .laden k l);
+      addressed = λ k l no-boss. ∥∥₁-elim h le-prop (λ r. promised w r .addressed k l no-boss);
+      helped = λ k i boss l e lt. ∥∥₁-elim h (taken-prop _) (λ r. promised w r .helped k i boss l e lt);
+      received = λ k room l e. ∥∥₁-elim h (welcome-prop room _) (λ r. promised w r .received k room l e)
+    }
+  where
+    Calm : Mail → Type 0
+    Calm m = isWork (m .kind) ≡ false
 
 -- what a step is for a letter: a move, or nothing
 is-give : {w v : World} (n : ℕ) (s : Step w v) → isGive n s ≡ (giveOf s && eqb (about s) n)

@@ -53,8 +53,8 @@ pub record Promised (w : World) : Type 0 where
   pub sound : (letter : ℕ) → 1 ≤ letter → Sound (view letter w)
   -- every message of work or coins has at least one
   pub laden : (k : ℕ) → k < length (w .post) → Laden (mailAt (w .post) k .kind)
-  -- every message is for the boss or a helper that there is; a helper takes it, and the boss does not turn it away
-  pub addressed : (k : ℕ) → k < length (w .post) → (mailAt (w .post) k .receiver .number < length (w .helpers)) ⊎ (mailAt (w .post) k .receiver .number ≡ bossNumber)
+  -- every message is for the boss, or else for a helper that there is; a helper takes it, and the boss does not turn it away
+  pub addressed : (k : ℕ) → k < length (w .post) → (mailAt (w .post) k .receiver .number ≡ bossNumber → ⊥) → mailAt (w .post) k .receiver .number < length (w .helpers)
   pub helped : (k i boss : ℕ) → k < length (w .post) → mailAt (w .post) k .receiver .number ≡ i → i < length (w .helpers) →
       Taken (arriveStep (helperAt (w .helpers) i) (mailAt (w .post) k .letter) (mailAt (w .post) k .kind) boss .taking)
   pub received : (k room : ℕ) → k < length (w .post) → mailAt (w .post) k .receiver .number ≡ bossNumber →
