@@ -1,0 +1,171 @@
+-- What is played is a step of the system, or nothing; and only say answers done.
+use Prim.Native.Nat.{ℕ, zero, suc, _+_, _<_, _≤_}
+use mathlib.Core.Path.{_≡_, refl, sym, ap, subst, _∙_}
+use mathlib.Core.Logic.{_⊎_, inl, inr, ⊎-elim, ∥∥₁-elim, ∥∥₁-map}
+use mathlib.Core.Bool.{Bool, true, false, cond, _&&_, _||_, not, Bool-set}
+use mathlib.Core.List.{List, [], _∷_, _++_, map}
+use native.Mathlib.Omega.{arith}
+use lib.Dec.{eqb, ltb, leb}
+use lib.ListN.{length, getD, set, take, drop}
+use Rattle.std.specs.Holes.{removed}
+use Rattle.std.specs.Orderings.{When}
+use Rattle.std.proofs.shelf.Lists.{map-push, map-append, take-map, drop-map, set-getD}
+use Rattle.std.proofs.shelf.Ways.{eqb-tells}
+use Rattle.std.proofs.shelf.Tests.{eqb-true}
+use borrow.Author.Tests.{ltb-true, ltb-false}
+use Rattle.coins.specs.declared.ids.LetterId.{LetterId}
+use Rattle.coins.specs.declared.ids.NodeId.{NodeId}
+use Rattle.coins.specs.declared.answer.Answer.{Answer}
+use Rattle.coins.specs.declared.answer.Answer.the-variants.{Fine, Done, Refused}
+use Rattle.coins.specs.declared.answer.Refusal.{Refusal}
+use Rattle.coins.specs.declared.mail.Kind.{Kind}
+use Rattle.coins.specs.declared.mail.Kind.the-variants.{Work as Works, More, Back, NoMore, Ask}
+use Rattle.coins.specs.declared.mail.Mail.{Mail}
+use Rattle.coins.specs.declared.mail.Post.{Post}
+use Rattle.coins.specs.declared.mail.Post.the-variants.{Nothing, Send}
+use Rattle.coins.specs.declared.mail.Taking.{Taking}
+use Rattle.coins.specs.declared.mail.Taking.the-variants.{Took, Later, Refused as Turned}
+use Rattle.coins.specs.declared.helper.Helper.{Helper}
+use Rattle.coins.specs.declared.holding.Holding.{Holding}
+use Rattle.coins.specs.declared.boss.Boss.{Boss}
+use Rattle.coins.specs.Limits.{grant, limit, bossNumber}
+use Rattle.coins.specs.Letters.{seek, place}
+use Rattle.coins.specs.Helpers.{at, askAt, shareAt, shareStep, restAt, restStep, flushStep, arriveStep}
+use Rattle.coins.specs.Helpers.{Called as HelperCalled, Took-in as HelperTook}
+use Rattle.coins.specs.Bosses.{giveOpen, giveAt, giveNew, giveStep, sayAt, sayStep, backAt, backStep, askAt as bossAskAt, askStep, receiveStep}
+use Rattle.coins.specs.Bosses.{Called as BossCalled, Took-in as BossTook}
+use Rattle.runs.specs.System.{World, helperAt, noHelper, mailAt, noMail, head, onLine, First, sent, Step, gives, says, shares, rests, flushes, comes, returns, Reach, then, Runs, onward}
+use Rattle.runs.specs.Letter.{View, view, isDone, Quiet}
+use Rattle.runs.specs.Promise.{Promised, Taken, Welcome}
+use Rattle.runs.proofs.Tables.{by-test, placed}
+use Rattle.runs.proofs.Books.{closed}
+use Rattle.runs.proofs.Always.{always}
+use Rattle.runs.proofs.Theorems.{promised-of}
+use Rattle.stage.specs.declared.work.Work.{Work}
+use Rattle.stage.specs.declared.parcel.Parcel.{Parcel}
+use Rattle.stage.specs.declared.command.Command.{Command}
+use Rattle.stage.specs.declared.command.Command.the-variants.{Give, Share, Rest, Say, Pass, Flush}
+use Rattle.stage.specs.declared.command.Reply.{Reply}
+use Rattle.stage.specs.declared.command.Reply.the-variants.{Answered, NoMemory}
+use Rattle.stage.specs.Works.{noWork}
+use Rattle.stage.specs.Scenes.{Scene, mails, world, parcelOf, sentOn, room}
+use Rattle.stage.specs.Plays.{Out, bossId, refuse, bossDid, helperDid, playGive, playSay, shareOf, playShare, playRest, playFlush, taken, toHelper, toBoss, passAt, playPass, plays, noMemory, lacks, Outcome, Onward, Said}
+use Rattle.stage.proofs.Looks.{mails-length}
+
+clash : {P : Type 0} → _≡_ {A = ℕ} 0 1 → P
+clash z = absurd (omega arith)
+
+-- the messages of a scene after a step
+pub mails-sent : (p : Post) (work : Work) (ps : List Parcel) → mails (sentOn p work ps) ≡ sent p (mails ps)
+unfolding mails
+mails-sent Nothing work ps = refl
+mails-sent (Send m) work ps = map-push (λ (p : Parcel). p .mail) ps (parcelOf m work)
+
+pub mails-removed : (ps : List Parcel) (k : ℕ) → mails (removed ps k) ≡ removed (mails ps) k
+unfolding mails
+mails-removed ps k = map-append (λ (p : Parcel). p .mail) (take k ps) (drop (suc k) ps) ∙ rw (take-map (λ (p : Parcel). p .mail) k ps, drop-map (λ (p : Parcel). p .mail) (suc k) ps)
+
+-- the message that comes is the first of its line
+at-head : (ms : List Mail) (s r : NodeId) → head ms s r < length ms → onLine s r (mailAt ms (head ms s r)) ≡ true
+unfolding head
+at-head [] s r l = absurd (omega arith)
+at-head (m ∷ ms) s r l =
+    by-test (λ (k : ℕ). k < suc (length ms) → onLine s r (mailAt (m ∷ ms) k) ≡ true) (onLine s r m) 0 (suc (head ms s r)) (λ e _. e) (λ _ h. at-head ms s r (omega arith)) l
+
+both-true : (a b : Bool) → a && b ≡ true → (a ≡ true) × (b ≡ true)
+both-true true b e = (refl, e)
+both-true false b e = (e, clash (cc))
+
+same-node : (x y : NodeId) → x .number ≡ y .number → x ≡ y
+same-node x y q = let z : _≡_ {A = NodeId} (record { number = x .number }) (record { number = y .number }) = cc in z
+
+pub is-first : (ms : List Mail) (s r : NodeId) → head ms s r < length ms → First ms (head ms s r) × (mailAt ms (head ms s r) .sender ≡ s) × (mailAt ms (head ms s r) .receiver ≡ r)
+is-first ms s r l =
+    let e = both-true _ _ (at-head ms s r l) in
+    let a : mailAt ms (head ms s r) .sender ≡ s = same-node _ _ (eqb-true _ _ (e .0)) in
+    let b : mailAt ms (head ms s r) .receiver ≡ r = same-node _ _ (eqb-true _ _ (e .1)) in
+    (record { inside = l; foremost = ap (λ (x : NodeId). head ms x (mailAt ms (head ms s r) .receiver)) a ∙ ap (λ (y : NodeId). head ms s y) b }, a, b)
+
+-- who answers done
+give-fine : (b : Boss) (letter : LetterId) (to : NodeId) (places : ℕ) → giveStep b letter to places .outcome .answer ≡ Done → ⊥
+give-fine b letter to places =
+    by-test P (ltb 255 (to .number)) _ _ (λ _ e. clash (cc))
+      (λ _. by-test P (ltb (place (b .letters) (letter .number)) 64) _ _
+        (λ _. by-test P (ltb (getD (b .given) (place (b .letters) (letter .number)) 0 + grant) limit) _ _ (λ _. by-test P (eqb places 0) _ _ (λ _ e. clash (cc)) (λ _ e. clash (cc))) (λ _ e. clash (cc)))
+        (λ _. by-test P (ltb (b .highest) (letter .number)) _ _
+          (λ _. by-test P (ltb (seek (b .letters) 0) 64) _ _ (λ _. by-test P (eqb places 0) _ _ (λ _ e. clash (cc)) (λ _ e. clash (cc))) (λ _ e. clash (cc)))
+          (λ _ e. clash (cc))))
+  where
+    P : BossCalled → Type 0
+    P d = d .outcome .answer ≡ Done → ⊥
+
+share-fine : (h : Helper) (letter : LetterId) (to : NodeId) (peer boss : ℕ) → shareStep h letter to peer boss .outcome .answer ≡ Done → ⊥
+share-fine h letter to peer boss =
+    by-test P (ltb 255 (to .number)) _ _ (λ _ e. clash (cc))
+      (λ _. by-test P (ltb (place (h .letters) (letter .number)) 64) _ _
+        (λ _. let x = at (h .holdings) (place (h .letters) (letter .number)) in
+          by-test P (x .working) _ _
+            (λ _. by-test P (ltb (x .coins) 2) _ _ (λ _. by-test P (x .asked || eqb boss 0) _ _ (λ _ e. clash (cc)) (λ _ e. clash (cc)))
+              (λ _. by-test P (eqb (to .number) (h .me .number)) _ _ (λ _ e. clash (cc)) (λ _. by-test P (eqb peer 0) _ _ (λ _ e. clash (cc)) (λ _ e. clash (cc)))))
+            (λ _ e. clash (cc)))
+        (λ _ e. clash (cc)))
+  where
+    P : HelperCalled → Type 0
+    P d = d .outcome .answer ≡ Done → ⊥
+
+rest-fine : (h : Helper) (letter : LetterId) (boss : ℕ) → restStep h letter boss .outcome .answer ≡ Done → ⊥
+rest-fine h letter boss =
+    by-test P (ltb (place (h .letters) (letter .number)) 64) _ _
+      (λ _. by-test P (at (h .holdings) (place (h .letters) (letter .number)) .working) _ _ (λ _. by-test P (eqb boss 0) _ _ (λ _ e. clash (cc)) (λ _ e. clash (cc))) (λ _ e. clash (cc)))
+      (λ _ e. clash (cc))
+  where
+    P : HelperCalled → Type 0
+    P d = d .outcome .answer ≡ Done → ⊥
+
+-- a step or nothing; and done is answered only if it is meant to be
+record Fair (s : Scene) (D : Type 0) (o : Out) : Type 0 where
+  goes : Onward (world s) (world (o .scene))
+  done : o .reply ≡ Answered Done → D
+
+refuses : (s : Scene) (why : Refusal) (D : Type 0) → Fair s D (refuse s why)
+refuses s why D = record { goes = inr refl; done = λ e. clash (cc) }
+
+answers : (a : Answer) → (a ≡ Done → ⊥) → (D : Type 0) → Answered a ≡ Answered Done → D
+answers a f D e = absurd (f (cc))
+
+by-boss : (s : Scene) (b : Boss) (p : Post) (work : Work) (a : Answer) → (a ≡ Done → ⊥) →
+  Step (world s) (record { boss = b; helpers = s .helpers; post = sent p (mails (s .parcels)) }) → Fair s ⊥ (bossDid s b p work a)
+by-boss s b p work a f t =
+    record { goes = inl (subst (λ (ms : List Mail). Step (world s) (record { boss = b; helpers = s .helpers; post = ms })) (sym (mails-sent p work (s .parcels))) t); done = answers a f ⊥ }
+
+by-helper : (s : Scene) (i : ℕ) (h : Helper) (p : Post) (work : Work) (a : Answer) → (a ≡ Done → ⊥) →
+  Step (world s) (record { boss = s .boss; helpers = set (s .helpers) i h; post = sent p (mails (s .parcels)) }) → Fair s ⊥ (helperDid s i h p work a)
+by-helper s i h p work a f t =
+    record { goes = inl (subst (λ (ms : List Mail). Step (world s) (record { boss = s .boss; helpers = set (s .helpers) i h; post = ms })) (sym (mails-sent p work (s .parcels))) t); done = answers a f ⊥ }
+
+fair-give : (s : Scene) (letter : LetterId) (to : NodeId) (work : Work) → Fair s ⊥ (playGive s letter to work)
+fair-give s letter to work =
+    by-test (Fair s ⊥) (ltb (to .number) (length (s .helpers))) _ _
+      (λ t. by-boss s _ _ work _ (give-fine (s .boss) letter to (room (s .parcels) bossId to)) (gives (world s) letter to (room (s .parcels) bossId to) (ltb-true _ _ t)))
+      (λ _. refuses s _ ⊥)
+
+fair-share : (s : Scene) (by : NodeId) (letter : LetterId) (to : NodeId) (work : Work) → Fair s ⊥ (playShare s by letter to work)
+fair-share s by letter to work =
+    by-test (Fair s ⊥) (ltb (by .number) (length (s .helpers))) _ _
+      (λ t. by-test (Fair s ⊥) (ltb (to .number) (length (s .helpers))) _ _
+        (λ u. by-helper s (by .number) _ _ work _ (share-fine (helperAt (s .helpers) (by .number)) letter to (room (s .parcels) by to) (room (s .parcels) by bossId))
+          (shares (world s) (by .number) letter to (room (s .parcels) by to) (room (s .parcels) by bossId) (ltb-true _ _ t) (ltb-true _ _ u)))
+        (λ _. refuses s _ ⊥))
+      (λ _. refuses s _ ⊥)
+
+fair-rest : (s : Scene) (by : NodeId) (letter : LetterId) → Fair s ⊥ (playRest s by letter)
+fair-rest s by letter =
+    by-test (Fair s ⊥) (ltb (by .number) (length (s .helpers))) _ _
+      (λ t. by-helper s (by .number) _ _ noWork _ (rest-fine (helperAt (s .helpers) (by .number)) letter (room (s .parcels) by bossId)) (rests (world s) (by .number) letter (room (s .parcels) by bossId) (ltb-true _ _ t)))
+      (λ _. refuses s _ ⊥)
+
+fair-flush : (s : Scene) (by : NodeId) → Fair s ⊥ (playFlush s by)
+fair-flush s by =
+    by-test (Fair s ⊥) (ltb (by .number) (length (s .helpers))) _ _
+      (λ t. by-helper s (by .number) _ _ noWork Fine (λ e. clash (cc)) (flushes (world s) (by .number) (room (s .parcels) by bossId) (ltb-true _ _ t)))
+      (λ _. refuses s _ ⊥)
