@@ -169,3 +169,115 @@ fair-flush s by =
     by-test (Fair s ⊥) (ltb (by .number) (length (s .helpers))) _ _
       (λ t. by-helper s (by .number) _ _ noWork Fine (λ e. clash (cc)) (flushes (world s) (by .number) (room (s .parcels) by bossId) (ltb-true _ _ t)))
       (λ _. refuses s _ ⊥)
+
+-- what comes is taken, or the boss leaves it for later
+came : (s : Scene) (k : ℕ) (p : Post) (b : Boss) (hs : List Helper) → Step (world s) (record { boss = b; helpers = hs; post = sent p (removed (mails (s .parcels)) k) }) →
+  Step (world s) (world (record { boss = b; helpers = hs; parcels = sentOn p noWork (removed (s .parcels) k) }))
+came s k p b hs t =
+    subst (λ (ms : List Mail). Step (world s) (record { boss = b; helpers = hs; post = ms })) (sym (mails-sent p noWork (removed (s .parcels) k) ∙ ap (λ (ms : List Mail). sent p ms) (mails-removed (s .parcels) k))) t
+
+-- what the boss leaves for later leaves the boss as it was
+abbrev Unmoved : Boss → Boss → Taking → Type 0
+Unmoved b c (Took p) = Unit {0}
+Unmoved b c Later = c ≡ b
+Unmoved b c (Turned why) = Unit {0}
+
+unmoved : (b : Boss) (sender : NodeId) (letter : LetterId) (kind : Kind) (places : ℕ) → Unmoved b (receiveStep b sender letter kind places .boss) (receiveStep b sender letter kind places .taking)
+unmoved b sender letter (Works c) places = tt
+unmoved b sender letter (More c) places = tt
+unmoved b sender letter NoMore places = tt
+unmoved b sender letter (Back c) places =
+    by-test P (eqb c 0 || leb 64 (place (b .letters) (letter .number))) _ _ (λ _. tt)
+      (λ _. by-test P (leb (getD (b .back) (place (b .letters) (letter .number)) 0 + c) (getD (b .given) (place (b .letters) (letter .number)) 0)) _ _ (λ _. tt) (λ _. tt))
+  where
+    P : BossTook → Type 0
+    P d = Unmoved b (d .boss) (d .taking)
+unmoved b sender letter Ask places =
+    by-test P (eqb places 0) _ _ (λ _. refl)
+      (λ _. by-test P (ltb (place (b .letters) (letter .number)) 64) _ _
+        (λ _. by-test P (ltb (getD (b .given) (place (b .letters) (letter .number)) 0 + grant) limit) _ _ (λ _. tt) (λ _. tt)) (λ _. tt))
+  where
+    P : BossTook → Type 0
+    P d = Unmoved b (d .boss) (d .taking)
+
+module _ (s : Scene) (P : Promised (world s)) (from to : NodeId) (k : ℕ) (l : k < length (mails (s .parcels))) (f : First (mails (s .parcels)) k) (b : mailAt (mails (s .parcels)) k .receiver ≡ to) where
+  abbrev m : Mail
+  m = mailAt (mails (s .parcels)) k
+
+  fair-helper : (places : ℕ) → to .number < length (s .helpers) → (g : Helper) (t : Taking) → arriveStep (helperAt (s .helpers) (to .number)) (m .letter) (m .kind) places ≡ record { helper = g; taking = t } → Taken t →
+    Fair s ⊥ (taken (record { boss = s .boss; helpers = set (s .helpers) (to .number) g; parcels = s .parcels }) k t)
+  fair-helper places lt g (Took p) e y =
+      record { goes = inl (came s k p (s .boss) (set (s .helpers) (to .number) g) (comes (world s) k (to .number) places g p f (ap (λ (x : NodeId). x .number) b) lt e)); done = λ q. clash (cc) }
+  fair-helper places lt g Later e y = absurd y
+  fair-helper places lt g (Turned why) e y = absurd y
+
+  fair-boss : (places : ℕ) → to .number ≡ bossNumber → (c : Boss) (t : Taking) → receiveStep (s .boss) (m .sender) (m .letter) (m .kind) places ≡ record { boss = c; taking = t } → Welcome places t → Unmoved (s .boss) c t →
+    Fair s ⊥ (taken (record { boss = c; helpers = s .helpers; parcels = s .parcels }) k t)
+  fair-boss places n c (Took p) e y u =
+      record { goes = inl (came s k p c (s .helpers) (returns (world s) k places c p f (ap (λ (x : NodeId). x .number) b ∙ n) e)); done = λ q. clash (cc) }
+  fair-boss places n c Later e y u =
+      record { goes = inr (ap (λ (x : Boss). record { boss = x; helpers = s .helpers; post = mails (s .parcels) }) u); done = λ q. clash (cc) }
+  fair-boss places n c (Turned why) e y u = absurd y
+
+  -- who is no helper is the boss
+  is-boss : length (s .helpers) ≤ to .number → to .number ≡ bossNumber
+  is-boss le =
+      elim (eqb-tells (to .number) bossNumber)
+        [ inl t ↦ t .1
+        | inr t ↦ absurd (let x = ap (λ (y : NodeId). y .number) b in omega (arith, P .addressed k l (λ q. t .1 (sym x ∙ q)), le, x)) ]
+
+  fair-at : Fair s ⊥ (cond (ltb (to .number) (length (s .helpers))) (toHelper s k to m) (toBoss s k from to m))
+  fair-at =
+      by-test (Fair s ⊥) (ltb (to .number) (length (s .helpers))) _ _
+        (λ t. let lt : to .number < length (s .helpers) = ltb-true _ _ t in
+          fair-helper (room (s .parcels) to bossId) lt _ _ refl (P .helped k (to .number) (room (s .parcels) to bossId) l (ap (λ (x : NodeId). x .number) b) lt))
+        (λ u. let n : to .number ≡ bossNumber = is-boss (ltb-false _ _ u) in
+          fair-boss (room (s .parcels) to from) n _ _ refl (P .received k (room (s .parcels) to from) l (ap (λ (x : NodeId). x .number) b ∙ n)) (unmoved (s .boss) (m .sender) (m .letter) (m .kind) (room (s .parcels) to from)))
+
+fair-pass : (s : Scene) → Promised (world s) → (from to : NodeId) → Fair s ⊥ (playPass s from to)
+fair-pass s P from to =
+    by-test (Fair s ⊥) (ltb (head (mails (s .parcels)) from to) (length (s .parcels))) _ _
+      (λ t. let l : head (mails (s .parcels)) from to < length (mails (s .parcels)) = omega (arith, ltb-true _ _ t, mails-length (s .parcels)) in
+        let x = is-first (mails (s .parcels)) from to l in
+        fair-at s P from to (head (mails (s .parcels)) from to) l (x .0) (x .2))
+      (λ _. refuses s _ ⊥)
+
+-- what say leaves when it answers done
+said-done : (w : World) → ∥ Reach w ∥₁ → (letter : LetterId) → sayStep (w .boss) letter .outcome .answer ≡ Done → (1 ≤ letter .number) × (isDone (sayStep (w .boss) letter .boss) (letter .number) ≡ true)
+said-done w r letter =
+    by-test P (ltb (place (w .boss .letters) n) 64) _ _
+      (λ t. let l : place (w .boss .letters) n < 64 = ltb-true _ _ t in
+        by-test P (eqb (getD (w .boss .given) (place (w .boss .letters) n) 0) (getD (w .boss .back) (place (w .boss .letters) n) 0)) _ _
+          (λ _ _. (placed (w .boss .letters) n l, ∥∥₁-elim r (Bool-set _ _) (λ q. closed (w .boss) (always q .order .boss) n l .done-is)))
+          (λ _ e. clash (cc)))
+      (λ _ e. clash (cc))
+  where
+    n : ℕ
+    n = letter .number
+    P : BossCalled → Type 0
+    P d = d .outcome .answer ≡ Done → (1 ≤ n) × (isDone (d .boss) n ≡ true)
+
+fair-say : (s : Scene) → ∥ Reach (world s) ∥₁ → (letter : LetterId) → Fair s (Said (Say letter) (world (playSay s letter .scene))) (playSay s letter)
+fair-say s r letter =
+    record {
+      goes = inl step;
+      done = λ e.
+        let x = said-done (world s) r letter (cc) in
+        (x .1, promised-of (world (playSay s letter .scene)) (∥∥₁-map r (λ q. then q step)) .sound (letter .number) (x .0) .quiet (x .1))
+    }
+  where
+    quietly : sayStep (s .boss) letter .outcome .post ≡ Nothing
+    quietly =
+        by-test (λ (d : BossCalled). d .outcome .post ≡ Nothing) (ltb (place (s .boss .letters) (letter .number)) 64) _ _
+          (λ _. by-test (λ (d : BossCalled). d .outcome .post ≡ Nothing) (eqb (getD (s .boss .given) (place (s .boss .letters) (letter .number)) 0) (getD (s .boss .back) (place (s .boss .letters) (letter .number)) 0)) _ _ (λ _. refl) (λ _. refl))
+          (λ _. refl)
+    step : Step (world s) (world (playSay s letter .scene))
+    step = subst (λ (p : Post). Step (world s) (record { boss = sayStep (s .boss) letter .boss; helpers = s .helpers; post = sent p (mails (s .parcels)) })) quietly (says (world s) letter)
+
+fair : (s : Scene) (c : Command) (work : Work) → ∥ Reach (world s) ∥₁ → Fair s (Said c (world (plays s c work .scene))) (plays s c work)
+fair s (Give letter to) work r = fair-give s letter to work
+fair s (Share by letter to) work r = fair-share s by letter to work
+fair s (Rest by letter) work r = fair-rest s by letter
+fair s (Say letter) work r = fair-say s r letter
+fair s (Pass from to) work r = fair-pass s (promised-of (world s) r) from to
+fair s (Flush by) work r = fair-flush s by
