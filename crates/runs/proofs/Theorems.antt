@@ -1,7 +1,7 @@
 -- The promises.
 use Prim.Native.Nat.{ℕ, zero, suc, _+_, _<_, _≤_}
 use mathlib.Core.Path.{_≡_, refl, sym, ap, subst, _∙_}
-use mathlib.Core.Logic.{_⊎_, inl, inr, ⊎-elim, ∥∥₁-elim}
+use mathlib.Core.Logic.{_⊎_, inl, inr, ⊎-elim, ∥∥₁-elim, ∥∥₁-map}
 use mathlib.Core.HLevel.{⊥-prop, Unit-prop}
 use mathlib.Core.Bool.{Bool, true, false, cond, _&&_, _||_, not, Bool-set}
 use native.Mathlib.Bridge.{le-prop}
@@ -88,14 +88,21 @@ welcome-prop room (Took p) = Unit-prop
 welcome-prop room Later = ℕ-set _ _
 welcome-prop room (Refused why) = ⊥-prop
 
+pub quiet-of : (v : View) → ∥ Quiet v ∥₁ → Quiet v
+quiet-of v h =
+    record {
+      nobody = λ i. ∥∥₁-elim h (Bool-set _ _) (λ q. q .nobody i);
+      nothing = all-from-getD Calm (v .post) noMail (λ k l. ∥∥₁-elim h (Bool-set _ _) (λ q. all-getD Calm (v .post) k noMail l (q .nothing)))
+    }
+  where
+    Calm : Mail → Type 0
+    Calm m = isWork (m .kind) ≡ false
+
 pub promised-of : (w : World) → ∥ Reach w ∥₁ → Promised w
 promised-of w h =
     record {
       sound = λ n pos. record {
-        quiet = λ d. record {
-          nobody = λ i. ∥∥₁-elim h (Bool-set _ _) (λ r. promised w r .sound n pos .quiet d .nobody i);
-          nothing = all-from-getD Calm (view n w .post) noMail (λ k l. ∥∥₁-elim h (Bool-set _ _) (λ r. all-getD Calm (view n w .post) k noMail l (promised w r .sound n pos .quiet d .nothing)))
-        };
+        quiet = λ d. quiet-of (view n w) (∥∥₁-map h (λ r. promised w r .sound n pos .quiet d));
         kept = ∥∥₁-elim h (ℕ-set _ _) (λ r. promised w r .sound n pos .kept);
         paid = λ i b. ∥∥₁-elim h le-prop (λ r. promised w r .sound n pos .paid i b)
       };
@@ -104,9 +111,6 @@ promised-of w h =
       helped = λ k i boss l e lt. ∥∥₁-elim h (taken-prop _) (λ r. promised w r .helped k i boss l e lt);
       received = λ k room l e. ∥∥₁-elim h (welcome-prop room _) (λ r. promised w r .received k room l e)
     }
-  where
-    Calm : Mail → Type 0
-    Calm m = isWork (m .kind) ≡ false
 
 -- what a step is for a letter: a move, or nothing
 is-give : {w v : World} (n : ℕ) (s : Step w v) → isGive n s ≡ (giveOf s && eqb (about s) n)

@@ -36,7 +36,7 @@ use Rattle.coins.specs.Bosses.{giveOpen, giveAt, giveNew, giveStep, sayAt, sayS
 use Rattle.coins.specs.Bosses.{Called as BossCalled, Took-in as BossTook}
 use Rattle.runs.specs.System.{World, helperAt, noHelper, mailAt, noMail, head, onLine, First, sent, Step, gives, says, shares, rests, flushes, comes, returns, Reach, then, Runs, onward}
 use Rattle.runs.specs.Letter.{View, view, isDone, Quiet}
-use Rattle.runs.specs.Promise.{Promised, Taken, Welcome}
+use Rattle.runs.specs.Promise.{Promised, Taken, Welcome, isGive}
 use Rattle.runs.proofs.Tables.{by-test, placed}
 use Rattle.runs.proofs.Books.{closed}
 use Rattle.runs.proofs.Always.{always}
@@ -122,59 +122,67 @@ rest-fine h letter boss =
     P : HelperCalled → Type 0
     P d = d .outcome .answer ≡ Done → ⊥
 
--- a step or nothing; and done is answered only if it is meant to be
-record Fair (s : Scene) (D : Type 0) (o : Out) : Type 0 where
-  goes : Onward (world s) (world (o .scene))
-  done : o .reply ≡ Answered Done → D
+-- a step, and that it is no give unless it may be
+pub record Goes (giver : Bool) (w v : World) : Type 0 where
+  pub step : Step w v
+  pub ungiven : giver ≡ false → (letter : ℕ) → isGive letter step ≡ false
 
-refuses : (s : Scene) (why : Refusal) (D : Type 0) → Fair s D (refuse s why)
-refuses s why D = record { goes = inr refl; done = λ e. clash (cc) }
+-- a step or nothing; and done is answered only if it is meant to be
+pub record Fair (s : Scene) (giver : Bool) (D : Type 0) (o : Out) : Type 0 where
+  pub goes : Goes giver (world s) (world (o .scene)) ⊎ (world (o .scene) ≡ world s)
+  pub done : o .reply ≡ Answered Done → D
+
+refuses : (s : Scene) (g : Bool) (why : Refusal) (D : Type 0) → Fair s g D (refuse s why)
+refuses s g why D = record { goes = inr refl; done = λ e. clash (cc) }
+
+plainly : {g : Bool} {w v : World} (t : Step w v) → ((letter : ℕ) → isGive letter t ≡ false) → Goes g w v
+plainly t f = record { step = t; ungiven = λ _. f }
 
 answers : (a : Answer) → (a ≡ Done → ⊥) → (D : Type 0) → Answered a ≡ Answered Done → D
 answers a f D e = absurd (f (cc))
 
 by-boss : (s : Scene) (b : Boss) (p : Post) (work : Work) (a : Answer) → (a ≡ Done → ⊥) →
-  Step (world s) (record { boss = b; helpers = s .helpers; post = sent p (mails (s .parcels)) }) → Fair s ⊥ (bossDid s b p work a)
+  Goes true (world s) (record { boss = b; helpers = s .helpers; post = sent p (mails (s .parcels)) }) → Fair s true ⊥ (bossDid s b p work a)
 by-boss s b p work a f t =
-    record { goes = inl (subst (λ (ms : List Mail). Step (world s) (record { boss = b; helpers = s .helpers; post = ms })) (sym (mails-sent p work (s .parcels))) t); done = answers a f ⊥ }
+    record { goes = inl (subst (λ (ms : List Mail). Goes true (world s) (record { boss = b; helpers = s .helpers; post = ms })) (sym (mails-sent p work (s .parcels))) t); done = answers a f ⊥ }
 
 by-helper : (s : Scene) (i : ℕ) (h : Helper) (p : Post) (work : Work) (a : Answer) → (a ≡ Done → ⊥) →
-  Step (world s) (record { boss = s .boss; helpers = set (s .helpers) i h; post = sent p (mails (s .parcels)) }) → Fair s ⊥ (helperDid s i h p work a)
+  Goes false (world s) (record { boss = s .boss; helpers = set (s .helpers) i h; post = sent p (mails (s .parcels)) }) → Fair s false ⊥ (helperDid s i h p work a)
 by-helper s i h p work a f t =
-    record { goes = inl (subst (λ (ms : List Mail). Step (world s) (record { boss = s .boss; helpers = set (s .helpers) i h; post = ms })) (sym (mails-sent p work (s .parcels))) t); done = answers a f ⊥ }
+    record { goes = inl (subst (λ (ms : List Mail). Goes false (world s) (record { boss = s .boss; helpers = set (s .helpers) i h; post = ms })) (sym (mails-sent p work (s .parcels))) t); done = answers a f ⊥ }
 
-fair-give : (s : Scene) (letter : LetterId) (to : NodeId) (work : Work) → Fair s ⊥ (playGive s letter to work)
+fair-give : (s : Scene) (letter : LetterId) (to : NodeId) (work : Work) → Fair s true ⊥ (playGive s letter to work)
 fair-give s letter to work =
-    by-test (Fair s ⊥) (ltb (to .number) (length (s .helpers))) _ _
-      (λ t. by-boss s _ _ work _ (give-fine (s .boss) letter to (room (s .parcels) bossId to)) (gives (world s) letter to (room (s .parcels) bossId to) (ltb-true _ _ t)))
-      (λ _. refuses s _ ⊥)
+    by-test (Fair s true ⊥) (ltb (to .number) (length (s .helpers))) _ _
+      (λ t. by-boss s _ _ work _ (give-fine (s .boss) letter to (room (s .parcels) bossId to)) (record { step = gives (world s) letter to (room (s .parcels) bossId to) (ltb-true _ _ t); ungiven = λ e. clash (cc) }))
+      (λ _. refuses s true _ ⊥)
 
-fair-share : (s : Scene) (by : NodeId) (letter : LetterId) (to : NodeId) (work : Work) → Fair s ⊥ (playShare s by letter to work)
+fair-share : (s : Scene) (by : NodeId) (letter : LetterId) (to : NodeId) (work : Work) → Fair s false ⊥ (playShare s by letter to work)
 fair-share s by letter to work =
-    by-test (Fair s ⊥) (ltb (by .number) (length (s .helpers))) _ _
-      (λ t. by-test (Fair s ⊥) (ltb (to .number) (length (s .helpers))) _ _
+    by-test (Fair s false ⊥) (ltb (by .number) (length (s .helpers))) _ _
+      (λ t. by-test (Fair s false ⊥) (ltb (to .number) (length (s .helpers))) _ _
         (λ u. by-helper s (by .number) _ _ work _ (share-fine (helperAt (s .helpers) (by .number)) letter to (room (s .parcels) by to) (room (s .parcels) by bossId))
-          (shares (world s) (by .number) letter to (room (s .parcels) by to) (room (s .parcels) by bossId) (ltb-true _ _ t) (ltb-true _ _ u)))
-        (λ _. refuses s _ ⊥))
-      (λ _. refuses s _ ⊥)
+          (plainly (shares (world s) (by .number) letter to (room (s .parcels) by to) (room (s .parcels) by bossId) (ltb-true _ _ t) (ltb-true _ _ u)) (λ _. refl)))
+        (λ _. refuses s false _ ⊥))
+      (λ _. refuses s false _ ⊥)
 
-fair-rest : (s : Scene) (by : NodeId) (letter : LetterId) → Fair s ⊥ (playRest s by letter)
+fair-rest : (s : Scene) (by : NodeId) (letter : LetterId) → Fair s false ⊥ (playRest s by letter)
 fair-rest s by letter =
-    by-test (Fair s ⊥) (ltb (by .number) (length (s .helpers))) _ _
-      (λ t. by-helper s (by .number) _ _ noWork _ (rest-fine (helperAt (s .helpers) (by .number)) letter (room (s .parcels) by bossId)) (rests (world s) (by .number) letter (room (s .parcels) by bossId) (ltb-true _ _ t)))
-      (λ _. refuses s _ ⊥)
+    by-test (Fair s false ⊥) (ltb (by .number) (length (s .helpers))) _ _
+      (λ t. by-helper s (by .number) _ _ noWork _ (rest-fine (helperAt (s .helpers) (by .number)) letter (room (s .parcels) by bossId)) (plainly (rests (world s) (by .number) letter (room (s .parcels) by bossId) (ltb-true _ _ t)) (λ _. refl)))
+      (λ _. refuses s false _ ⊥)
 
-fair-flush : (s : Scene) (by : NodeId) → Fair s ⊥ (playFlush s by)
+fair-flush : (s : Scene) (by : NodeId) → Fair s false ⊥ (playFlush s by)
 fair-flush s by =
-    by-test (Fair s ⊥) (ltb (by .number) (length (s .helpers))) _ _
-      (λ t. by-helper s (by .number) _ _ noWork Fine (λ e. clash (cc)) (flushes (world s) (by .number) (room (s .parcels) by bossId) (ltb-true _ _ t)))
-      (λ _. refuses s _ ⊥)
+    by-test (Fair s false ⊥) (ltb (by .number) (length (s .helpers))) _ _
+      (λ t. by-helper s (by .number) _ _ noWork Fine (λ e. clash (cc)) (plainly (flushes (world s) (by .number) (room (s .parcels) by bossId) (ltb-true _ _ t)) (λ _. refl)))
+      (λ _. refuses s false _ ⊥)
 
 -- what comes is taken, or the boss leaves it for later
-came : (s : Scene) (k : ℕ) (p : Post) (b : Boss) (hs : List Helper) → Step (world s) (record { boss = b; helpers = hs; post = sent p (removed (mails (s .parcels)) k) }) →
-  Step (world s) (world (record { boss = b; helpers = hs; parcels = sentOn p noWork (removed (s .parcels) k) }))
+came : (s : Scene) (k : ℕ) (p : Post) (b : Boss) (hs : List Helper) → Goes false (world s) (record { boss = b; helpers = hs; post = sent p (removed (mails (s .parcels)) k) }) →
+  Goes false (world s) (world (record { boss = b; helpers = hs; parcels = sentOn p noWork (removed (s .parcels) k) }))
 came s k p b hs t =
-    subst (λ (ms : List Mail). Step (world s) (record { boss = b; helpers = hs; post = ms })) (sym (mails-sent p noWork (removed (s .parcels) k) ∙ ap (λ (ms : List Mail). sent p ms) (mails-removed (s .parcels) k))) t
+    subst (λ (ms : List Mail). Goes false (world s) (record { boss = b; helpers = hs; post = ms })) (sym (mails-sent p noWork (removed (s .parcels) k) ∙ ap (λ (ms : List Mail). sent p ms) (mails-removed (s .parcels) k))) t
 
 -- what the boss leaves for later leaves the boss as it was
 abbrev Unmoved : Boss → Boss → Taking → Type 0
@@ -205,16 +213,16 @@ module _ (s : Scene) (P : Promised (world s)) (from to : NodeId) (k : ℕ) (l : 
   m = mailAt (mails (s .parcels)) k
 
   fair-helper : (places : ℕ) → to .number < length (s .helpers) → (g : Helper) (t : Taking) → arriveStep (helperAt (s .helpers) (to .number)) (m .letter) (m .kind) places ≡ record { helper = g; taking = t } → Taken t →
-    Fair s ⊥ (taken (record { boss = s .boss; helpers = set (s .helpers) (to .number) g; parcels = s .parcels }) k t)
+    Fair s false ⊥ (taken (record { boss = s .boss; helpers = set (s .helpers) (to .number) g; parcels = s .parcels }) k t)
   fair-helper places lt g (Took p) e y =
-      record { goes = inl (came s k p (s .boss) (set (s .helpers) (to .number) g) (comes (world s) k (to .number) places g p f (ap (λ (x : NodeId). x .number) b) lt e)); done = λ q. clash (cc) }
+      record { goes = inl (came s k p (s .boss) (set (s .helpers) (to .number) g) (plainly (comes (world s) k (to .number) places g p f (ap (λ (x : NodeId). x .number) b) lt e) (λ _. refl))); done = λ q. clash (cc) }
   fair-helper places lt g Later e y = absurd y
   fair-helper places lt g (Turned why) e y = absurd y
 
   fair-boss : (places : ℕ) → to .number ≡ bossNumber → (c : Boss) (t : Taking) → receiveStep (s .boss) (m .sender) (m .letter) (m .kind) places ≡ record { boss = c; taking = t } → Welcome places t → Unmoved (s .boss) c t →
-    Fair s ⊥ (taken (record { boss = c; helpers = s .helpers; parcels = s .parcels }) k t)
+    Fair s false ⊥ (taken (record { boss = c; helpers = s .helpers; parcels = s .parcels }) k t)
   fair-boss places n c (Took p) e y u =
-      record { goes = inl (came s k p c (s .helpers) (returns (world s) k places c p f (ap (λ (x : NodeId). x .number) b ∙ n) e)); done = λ q. clash (cc) }
+      record { goes = inl (came s k p c (s .helpers) (plainly (returns (world s) k places c p f (ap (λ (x : NodeId). x .number) b ∙ n) e) (λ _. refl))); done = λ q. clash (cc) }
   fair-boss places n c Later e y u =
       record { goes = inr (ap (λ (x : Boss). record { boss = x; helpers = s .helpers; post = mails (s .parcels) }) u); done = λ q. clash (cc) }
   fair-boss places n c (Turned why) e y u = absurd y
@@ -226,21 +234,21 @@ module _ (s : Scene) (P : Promised (world s)) (from to : NodeId) (k : ℕ) (l : 
         [ inl t ↦ t .1
         | inr t ↦ absurd (let x = ap (λ (y : NodeId). y .number) b in omega (arith, P .addressed k l (λ q. t .1 (sym x ∙ q)), le, x)) ]
 
-  fair-at : Fair s ⊥ (cond (ltb (to .number) (length (s .helpers))) (toHelper s k to m) (toBoss s k from to m))
+  fair-at : Fair s false ⊥ (cond (ltb (to .number) (length (s .helpers))) (toHelper s k to m) (toBoss s k from to m))
   fair-at =
-      by-test (Fair s ⊥) (ltb (to .number) (length (s .helpers))) _ _
+      by-test (Fair s false ⊥) (ltb (to .number) (length (s .helpers))) _ _
         (λ t. let lt : to .number < length (s .helpers) = ltb-true _ _ t in
           fair-helper (room (s .parcels) to bossId) lt _ _ refl (P .helped k (to .number) (room (s .parcels) to bossId) l (ap (λ (x : NodeId). x .number) b) lt))
         (λ u. let n : to .number ≡ bossNumber = is-boss (ltb-false _ _ u) in
           fair-boss (room (s .parcels) to from) n _ _ refl (P .received k (room (s .parcels) to from) l (ap (λ (x : NodeId). x .number) b ∙ n)) (unmoved (s .boss) (m .sender) (m .letter) (m .kind) (room (s .parcels) to from)))
 
-fair-pass : (s : Scene) → Promised (world s) → (from to : NodeId) → Fair s ⊥ (playPass s from to)
+fair-pass : (s : Scene) → Promised (world s) → (from to : NodeId) → Fair s false ⊥ (playPass s from to)
 fair-pass s P from to =
-    by-test (Fair s ⊥) (ltb (head (mails (s .parcels)) from to) (length (s .parcels))) _ _
+    by-test (Fair s false ⊥) (ltb (head (mails (s .parcels)) from to) (length (s .parcels))) _ _
       (λ t. let l : head (mails (s .parcels)) from to < length (mails (s .parcels)) = omega (arith, ltb-true _ _ t, mails-length (s .parcels)) in
         let x = is-first (mails (s .parcels)) from to l in
         fair-at s P from to (head (mails (s .parcels)) from to) l (x .0) (x .2))
-      (λ _. refuses s _ ⊥)
+      (λ _. refuses s false _ ⊥)
 
 -- what say leaves when it answers done
 said-done : (w : World) → ∥ Reach w ∥₁ → (letter : LetterId) → sayStep (w .boss) letter .outcome .answer ≡ Done → (1 ≤ letter .number) × (isDone (sayStep (w .boss) letter .boss) (letter .number) ≡ true)
@@ -257,13 +265,13 @@ said-done w r letter =
     P : BossCalled → Type 0
     P d = d .outcome .answer ≡ Done → (1 ≤ n) × (isDone (d .boss) n ≡ true)
 
-fair-say : (s : Scene) → ∥ Reach (world s) ∥₁ → (letter : LetterId) → Fair s (Said (Say letter) (world (playSay s letter .scene))) (playSay s letter)
+fair-say : (s : Scene) → ∥ Reach (world s) ∥₁ → (letter : LetterId) → Fair s false (Said (Say letter) (world (playSay s letter .scene))) (playSay s letter)
 fair-say s r letter =
     record {
-      goes = inl step;
+      goes = inl goes;
       done = λ e.
         let x = said-done (world s) r letter (cc) in
-        (x .1, promised-of (world (playSay s letter .scene)) (∥∥₁-map r (λ q. then q step)) .sound (letter .number) (x .0) .quiet (x .1))
+        (x .1, promised-of (world (playSay s letter .scene)) (∥∥₁-map r (λ q. then q (goes .step))) .sound (letter .number) (x .0) .quiet (x .1))
     }
   where
     quietly : sayStep (s .boss) letter .outcome .post ≡ Nothing
@@ -271,13 +279,58 @@ fair-say s r letter =
         by-test (λ (d : BossCalled). d .outcome .post ≡ Nothing) (ltb (place (s .boss .letters) (letter .number)) 64) _ _
           (λ _. by-test (λ (d : BossCalled). d .outcome .post ≡ Nothing) (eqb (getD (s .boss .given) (place (s .boss .letters) (letter .number)) 0) (getD (s .boss .back) (place (s .boss .letters) (letter .number)) 0)) _ _ (λ _. refl) (λ _. refl))
           (λ _. refl)
-    step : Step (world s) (world (playSay s letter .scene))
-    step = subst (λ (p : Post). Step (world s) (record { boss = sayStep (s .boss) letter .boss; helpers = s .helpers; post = sent p (mails (s .parcels)) })) quietly (says (world s) letter)
+    goes : Goes false (world s) (world (playSay s letter .scene))
+    goes = subst (λ (p : Post). Goes false (world s) (record { boss = sayStep (s .boss) letter .boss; helpers = s .helpers; post = sent p (mails (s .parcels)) })) quietly (plainly (says (world s) letter) (λ _. refl))
 
-fair : (s : Scene) (c : Command) (work : Work) → ∥ Reach (world s) ∥₁ → Fair s (Said c (world (plays s c work .scene))) (plays s c work)
+-- only a give is one
+abbrev pub isGiver : Command → Bool
+isGiver (Give letter to) = true
+isGiver (Share by letter to) = false
+isGiver (Rest by letter) = false
+isGiver (Say letter) = false
+isGiver (Pass from to) = false
+isGiver (Flush by) = false
+
+pub fair : (s : Scene) (c : Command) (work : Work) → ∥ Reach (world s) ∥₁ → Fair s (isGiver c) (Said c (world (plays s c work .scene))) (plays s c work)
 fair s (Give letter to) work r = fair-give s letter to work
 fair s (Share by letter to) work r = fair-share s by letter to work
 fair s (Rest by letter) work r = fair-rest s by letter
 fair s (Say letter) work r = fair-say s r letter
 fair s (Pass from to) work r = fair-pass s (promised-of (world s) r) from to
 fair s (Flush by) work r = fair-flush s by
+
+-- what a call that is as played, or found no memory, makes of the world
+by-when : {P Q : Type 0} (b : Bool) → When b P Q → P ⊎ Q
+by-when true p = inl p
+by-when false q = inr q
+
+module _ (s t : Scene) (c : Command) (work : Work) (r : Reply) (h : Outcome (lacks c r) (plays s c work) s t r) (q : ∥ Reach (world s) ∥₁) where
+  pub went : Goes (isGiver c) (world s) (world t) ⊎ (world t ≡ world s)
+  went =
+      ⊎-elim (λ e. inr (ap world e))
+        (λ e. subst (λ (o : Out). Goes (isGiver c) (world s) (world (o .scene)) ⊎ (world (o .scene) ≡ world s)) e (fair s c work q .goes))
+        (by-when (lacks c r) h)
+
+  pub goes-on : Onward (world s) (world t)
+  goes-on = ⊎-elim (λ g. inl (g .step)) inr went
+
+  pub reach-on : ∥ Reach (world t) ∥₁
+  reach-on = ∥∥₁-map q (λ p. ⊎-elim (λ g. then p g) (λ e. subst Reach (sym e) p) goes-on)
+
+no-lack : (P Q : Type 0) (c : Command) → When (lacks c (Answered Done)) P Q → Q
+no-lack P Q (Give letter to) h = h
+no-lack P Q (Share by letter to) h = h
+no-lack P Q (Rest by letter) h = h
+no-lack P Q (Say letter) h = h
+no-lack P Q (Pass from to) h = h
+no-lack P Q (Flush by) h = h
+
+pub done-on : (s t : Scene) (c : Command) (work : Work) (r : Reply) → Outcome (lacks c r) (plays s c work) s t r → ∥ Reach (world s) ∥₁ → r ≡ Answered Done → Said c (world t)
+done-on s t c work r h q d =
+    let o : plays s c work ≡ record { scene = t; reply = Answered Done } =
+      no-lack (t ≡ s) (plays s c work ≡ record { scene = t; reply = Answered Done }) c (subst (λ (a : Reply). Outcome (lacks c a) (plays s c work) s t a) d h) in
+    subst (λ (x : Out). Said c (world (x .scene))) o (fair s c work q .done (ap (λ (x : Out). x .reply) o))
+
+pub runs-on : (w v u : World) → Runs w v → Onward v u → Runs w u
+runs-on w v u p (inl t) = onward p t
+runs-on w v u p (inr e) = subst (Runs w) (sym e) p
