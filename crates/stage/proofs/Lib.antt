@@ -1,3 +1,4 @@
 pub mod Looks
 pub mod Outs
 pub mod Played
+pub mod Loads
