@@ -2,3 +2,4 @@ pub mod Looks
 pub mod Outs
 pub mod Played
 pub mod Loads
+pub mod Settles
