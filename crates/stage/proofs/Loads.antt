@@ -57,18 +57,18 @@ mailed-removed ms k l = omega (arith, ap mailed (around ms k l), mailed-split (m
 delay-le : (x : Holding) → delay x ≤ 2
 delay-le x = by-test (λ (k : ℕ). k ≤ 2) (waits x) 2 0 (λ _. omega arith) (λ _. omega arith)
 
+-- a message of this weight that a helper takes leaves less
+abbrev pub Lighter : Helper → ℕ → Helper → Taking → Type 0
+Lighter h was g (Took p) = delayed (g .holdings) + weighs p + 1 ≤ delayed (h .holdings) + was
+Lighter h was g Later = Unit {0}
+Lighter h was g (Turned why) = Unit {0}
+
 module _ (i : ℕ) (h : Helper) (T : Tidy i h) where
   inside : (k : ℕ) → k < 64 → k < length (h .holdings)
   inside k l = omega (arith, T .holdings)
 
-  -- a message that a helper takes leaves less
-  abbrev Lighter : ℕ → Helper → Taking → Type 0
-  Lighter was g (Took p) = delayed (g .holdings) + weighs p + 1 ≤ delayed (h .holdings) + was
-  Lighter was g Later = Unit {0}
-  Lighter was g (Turned why) = Unit {0}
-
   abbrev Lightens : ℕ → HelperTook → Type 0
-  Lightens was d = Lighter was (d .helper) (d .taking)
+  Lightens was d = Lighter h was (d .helper) (d .taking)
 
   work-lighter : (letter : LetterId) (c : ℕ) → Lightens 1 (workStep h letter c)
   work-lighter letter c =
@@ -107,7 +107,7 @@ module _ (i : ℕ) (h : Helper) (T : Tidy i h) where
       by-test (λ (g : Helper). delayed (g .holdings) ≤ delayed (h .holdings)) (ltb k 64) _ _
         (λ t. omega (arith, delayed-set (h .holdings) k (answered (at (h .holdings) k) 0) (inside k (ltb-true _ _ t)), heard-same (at (h .holdings) k))) (λ _. omega arith)
 
-  pub arrive-lighter : (letter : LetterId) (kind : Kind) (boss : ℕ) → Lighter (weigh kind) (arriveStep h letter kind boss .helper) (arriveStep h letter kind boss .taking)
+  pub arrive-lighter : (letter : LetterId) (kind : Kind) (boss : ℕ) → Lighter h (weigh kind) (arriveStep h letter kind boss .helper) (arriveStep h letter kind boss .taking)
   arrive-lighter letter (Works c) boss = work-lighter letter c
   arrive-lighter letter (More c) boss = more-lighter letter c boss
   arrive-lighter letter NoMore boss = omega (arith, no-more-lighter (place (h .letters) (letter .number)))
@@ -129,7 +129,7 @@ module _ (i : ℕ) (h : Helper) (T : Tidy i h) where
       free a b la lb = grind (arith, tells)
 
 -- a message that the boss takes leaves less
-abbrev Drops : ℕ → Taking → Type 0
+abbrev pub Drops : ℕ → Taking → Type 0
 Drops was (Took p) = weighs p + 1 ≤ was
 Drops was Later = ⊥
 Drops was (Turned why) = Unit {0}
