@@ -2,3 +2,4 @@ pub mod Works
 pub mod Scenes
 pub mod Plays
 pub mod Tables
+pub mod Stages

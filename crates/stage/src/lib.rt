@@ -2,6 +2,6 @@
 pub mod command;
 mod lines;
 pub mod parcel;
-// pub mod stage;
+pub mod stage;
 mod table;
 pub mod work;
