@@ -3,3 +3,4 @@ pub mod Outs
 pub mod Played
 pub mod Loads
 pub mod Settles
+pub mod Worked

@@ -6,6 +6,7 @@ ghost use Prim.Native.Nat.{ℕ, _+_, _<_, _≤_};
 ghost use lib.ListN.{length};
 ghost use Rattle.std.specs.Of.Vec.{vec-items};
 ghost use Rattle.std.specs.Results.{Cases as ByOk};
+ghost use Rattle.std.specs.declared.result.Result.the-variants.{Err};
 ghost use Rattle.coins.specs.Helpers.{holdingOf};
 ghost use Rattle.runs.specs.System.{Reach, Runs, start, helperAt};
 ghost use Rattle.runs.specs.Promise.{Promised};
@@ -41,7 +42,9 @@ pub struct Stage {
 impl Stage {
     // A stage with so many helpers, up to 256, on which nothing has happened.
     pub fn new(heap: Global, n: u16) -> Result<Stage, Unstaged>
-        ensures { λ r. ⌜ ByOk r (λ s. world (scene (s .table)) ≡ start n) (λ e. e ≡ Unstaged.TooMany → 256 < n) ⌝ }
+        ensures made { λ r. ⌜ ByOk r (λ s. world (scene (s .table)) ≡ start n) (λ _. Unit {0}) ⌝ }
+        ensures few { λ r. ⌜ (256 < n → r ≡ Err Unstaged.TooMany) ⌝ }
+        ensures memory { λ r. ⌜ (n ≤ 256 → r ≡ Err Unstaged.TooMany → ⊥) ⌝ }
     {
         if n > 256 {
             return Err(Unstaged::TooMany);
