@@ -1,12 +1,10 @@
 -- Every step of the boss.
 use Prim.Native.Nat.{ℕ, _+_}
-use mathlib.Core.Bool.{Bool, cond, _&&_, _||_, not}
-use mathlib.Core.List.{List}
+use mathlib.Core.Bool.{Bool, cond, _||_}
 use lib.Dec.{eqb, ltb, leb}
 use lib.ListN.{getD, set, replicate}
 use Rattle.coins.specs.declared.ids.LetterId.{LetterId}
 use Rattle.coins.specs.declared.ids.NodeId.{NodeId}
-use Rattle.coins.specs.declared.answer.Answer.{Answer}
 use Rattle.coins.specs.declared.answer.Answer.the-variants.{Fine, Done, Refused}
 use Rattle.coins.specs.declared.answer.Refusal.{Refusal}
 use Rattle.coins.specs.declared.answer.Refusal.the-variants.{Malformed, NoLetter, CoinsOut, CountsUsed, LettersFull, NoPlace}

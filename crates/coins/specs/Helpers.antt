@@ -6,8 +6,7 @@ use lib.Dec.{eqb, ltb}
 use lib.ListN.{getD, set, replicate}
 use Rattle.coins.specs.declared.ids.LetterId.{LetterId}
 use Rattle.coins.specs.declared.ids.NodeId.{NodeId}
-use Rattle.coins.specs.declared.answer.Answer.{Answer}
-use Rattle.coins.specs.declared.answer.Answer.the-variants.{Fine, Done, Refused}
+use Rattle.coins.specs.declared.answer.Answer.the-variants.{Fine, Refused}
 use Rattle.coins.specs.declared.answer.Refusal.{Refusal}
 use Rattle.coins.specs.declared.answer.Refusal.the-variants.{Malformed, NoLetter, NotWorking, OneCoin, LettersFull, NoPlace}
 use Rattle.coins.specs.declared.mail.Kind.{Kind}

@@ -1,9 +1,6 @@
 // The boss: what it gives out, what comes back, and when it says that a letter is done.
 ghost use mathlib.Core.Path.{_≡_};
-ghost use Prim.Native.Nat.{ℕ, _+_, _<_, _≤_};
-ghost use lib.ListN.{length, getD, set};
-ghost use Rattle.coins.specs.Limits.{grant, limit};
-ghost use Rattle.coins.specs.Letters.{place, seek};
+ghost use Prim.Native.Nat.{_+_, _<_};
 ghost use Rattle.coins.specs.Bosses.{newBoss, givenOf, backOf, isOpen, giveStep, giveOpen, giveNew, sayStep, backStep, askStep, receiveStep};
 use crate::answer::Answer;
 use crate::answer::Refusal;

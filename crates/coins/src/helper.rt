@@ -1,10 +1,9 @@
 // A helper: what it does with work and coins of all its letters.
 ghost use mathlib.Core.Path.{_≡_};
-ghost use Prim.Native.Nat.{ℕ, _+_, _-_, _/_, _<_, _≤_};
+ghost use Prim.Native.Nat.{_+_, _-_, _<_, _≤_};
 ghost use lib.Dec.{ltb};
-ghost use lib.ListN.{length, getD, set};
-ghost use Rattle.coins.specs.Limits.{limit};
-ghost use Rattle.coins.specs.Letters.{place, seek};
+ghost use lib.ListN.{length};
+ghost use Rattle.coins.specs.Letters.{place};
 ghost use Rattle.coins.specs.Helpers.{newHelper, holdingOf, slotFor, write, clear, seekWaiting, shareStep, askAt, restStep, flushStep, workStep, moreStep, noMoreStep, arriveStep};
 use crate::answer::Answer;
 use crate::answer::Refusal;
@@ -64,9 +63,9 @@ impl Helper {
     pub fn holding(&self, letter: LetterId) -> Holding
         ensures { λ r. ⌜ r ≡ holdingOf (now (self .entry)) (letter .number) ⌝ }
     {
-        let i = find(&self.letters, letter);
-        if i < LETTERS {
-            self.holdings[i]
+        let place = find(&self.letters, letter);
+        if place < LETTERS {
+            self.holdings[place]
         } else {
             Holding::idle()
         }

@@ -1,6 +1,6 @@
 // A helper's state of one letter.
 ghost use mathlib.Core.Path.{_≡_};
-ghost use Prim.Native.Nat.{ℕ, _+_, _-_, _/_, _<_, _≤_};
+ghost use Prim.Native.Nat.{_+_, _-_, _/_, _<_};
 ghost use Rattle.coins.specs.Limits.{limit};
 ghost use Rattle.coins.specs.Holdings.{idle, took, kept, waiting, answered, waits};
 use crate::purse::Coins;

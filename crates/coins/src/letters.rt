@@ -1,6 +1,6 @@
 // Which of the 64 places a letter has.
 ghost use mathlib.Core.Path.{_≡_};
-ghost use Prim.Native.Nat.{ℕ, _+_, _<_, _≤_};
+ghost use Prim.Native.Nat.{_≤_};
 ghost use lib.ListN.{length};
 ghost use Rattle.coins.specs.Letters.{seek, place};
 use crate::ids::LetterId;

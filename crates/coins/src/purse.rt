@@ -1,6 +1,6 @@
 // Coins by value: neither copied nor dropped, so that each is spent once.
 ghost use mathlib.Core.Path.{_≡_};
-ghost use Prim.Native.Nat.{ℕ, _+_, _-_, _/_};
+ghost use Prim.Native.Nat.{_-_, _/_};
 
 // Coins in hand.
 pub(crate) struct Coins {

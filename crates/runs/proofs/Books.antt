@@ -1,22 +1,21 @@
 -- The boss's table: what a write at one place does to each letter.
-use Prim.Native.Nat.{ℕ, zero, suc, _+_, _<_, _≤_}
+use Prim.Native.Nat.{ℕ, _+_, _<_, _≤_}
 use mathlib.Core.Path.{_≡_, refl, sym, ap, subst, _∙_}
-use mathlib.Core.Logic.{_⊎_, inl, inr, ⊎-elim}
+use mathlib.Core.Logic.{_⊎_, inl, inr}
 use mathlib.Core.Bool.{Bool, true, false, cond, _&&_, not}
-use mathlib.Core.List.{List, [], _∷_}
+use mathlib.Core.List.{List}
 use native.Mathlib.Omega.{arith}
-use lib.Dec.{eqb, ltb, leb}
+use lib.Dec.{ltb, leb}
 use lib.ListN.{length, getD, set, replicate}
 use Rattle.std.proofs.shelf.Lists.{length-set, getD-set-same, getD-set-other, getD-past, set-getD, getD-replicate}
-use Rattle.std.proofs.shelf.Tests.{eqb-true, eqb-false, eq-eqb, ne-eqb}
 use Rattle.std.proofs.shelf.Ways.{tells, eqb-tells, leb-tells}
-use borrow.Author.Tests.{ltb-true, ltb-false, lt-ltb, le-ltb}
+use borrow.Author.Tests.{ltb-false, lt-ltb, le-ltb}
 use Rattle.coins.specs.declared.boss.Boss.{Boss}
 use Rattle.coins.specs.Limits.{grant}
 use Rattle.coins.specs.Letters.{seek, place}
 use Rattle.coins.specs.Bosses.{newBoss, isOpen, givenOf, backOf, granted, entered}
 use Rattle.runs.specs.Letter.{isDone}
-use Rattle.runs.proofs.Tables.{by-test, seek-le, seek-at, seek-out, seek-set-other, Apart, seek-apart, seek-set-gone, Fits, seek-fits, apart-set, apart-fits, fits-other, place-seek, placed}
+use Rattle.runs.proofs.Tables.{by-test, seek-at, seek-out, seek-set-other, Apart, seek-set-gone, Fits, seek-fits, apart-set, apart-fits, place-seek, placed}
 
 -- A table in order; no open letter is above the highest.
 pub record Tidy (b : Boss) : Type 0 where
@@ -33,8 +32,8 @@ open-is b n pos = ap (λ (k : ℕ). ltb k 64) (place-seek (b .letters) n pos)
 count-is : (b : Boss) (words : List ℕ) (n : ℕ) → length words ≡ 64 → 1 ≤ n → cond (isOpen b n) (getD words (place (b .letters) n) 0) 0 ≡ getD words (seek (b .letters) n) 0
 count-is b words n l pos =
     by-test (λ x. x ≡ getD words (seek (b .letters) n) 0) (isOpen b n) (getD words (place (b .letters) n) 0) 0
-      (λ _. ap (λ (k : ℕ). getD words k 0) (place-seek (b .letters) n pos))
-      (λ e. sym (getD-past words (seek (b .letters) n) 0 (omega (arith, ltb-false _ _ e, place-seek (b .letters) n pos))))
+    (λ _. ap (λ (k : ℕ). getD words k 0) (place-seek (b .letters) n pos))
+    (λ e. sym (getD-past words (seek (b .letters) n) 0 (omega (arith, ltb-false _ _ e, place-seek (b .letters) n pos))))
 
 -- What becomes of the boss when its account of one letter comes to this; other letters' stay, but that a number may be passed over.
 pub record Booked (n : ℕ) (live done : Bool) (given back : ℕ) (b c : Boss) : Type 0 where
@@ -89,14 +88,17 @@ module _ (b c : Boss) (T : Tidy b) (U : Tidy c) where
   skip-done : (m : ℕ) → 1 ≤ m → Stays m b c → b .highest ≤ c .highest → (isDone c m ≡ isDone b m) ⊎ ((isOpen b m ≡ false) × (isDone c m ≡ true))
   skip-done m pos S le =
       let s = same-live m pos S in
-      elim (leb-tells m (c .highest))
-        [ inl t ↦ by-live (isOpen b m) refl (t .1)
-        | inr t ↦ inl (rw s (high (leb-high m (b .highest) (omega (arith, t .1))) (leb-high m (c .highest) (t .1)))) ]
+      elim (leb-tells m (c .highest)) [
+        | inl t ↦ by-live (isOpen b m) refl (t .1)
+        | inr t ↦ inl (rw s (high (leb-high m (b .highest) (omega (arith, t .1))) (leb-high m (c .highest) (t .1))))
+      ]
     where
       leb-high : (x y : ℕ) → y < x → leb x y ≡ false
       leb-high x y l = grind (arith, tells)
+
       high : leb m (b .highest) ≡ false → leb m (c .highest) ≡ false → (leb m (c .highest) && not (isOpen b m)) ≡ (leb m (b .highest) && not (isOpen b m))
       high e f = rw (e, f)
+
       by-live : (o : Bool) → isOpen b m ≡ o → m ≤ c .highest → (isDone c m ≡ isDone b m) ⊎ ((isOpen b m ≡ false) × (isDone c m ≡ true))
       by-live true o l = inl (not-done c m (same-live m pos S ∙ o) ∙ sym (not-done b m o))
       by-live false o l = inr (o, is-done c m (same-live m pos S ∙ o) l)
@@ -122,7 +124,7 @@ module _ (b : Boss) (T : Tidy b) where
 
   -- the counts of a letter that has a place come to these
   pub counted : (n given back : ℕ) → place (b .letters) n < 64 →
-    Booked n true false given back b (record { highest = b .highest; letters = b .letters; given = set (b .given) (place (b .letters) n) given; back = set (b .back) (place (b .letters) n) back })
+      Booked n true false given back b (record { highest = b .highest; letters = b .letters; given = set (b .given) (place (b .letters) n) given; back = set (b .back) (place (b .letters) n) back })
   counted n given back l =
       record {
         tidy = U;
@@ -133,13 +135,15 @@ module _ (b : Boss) (T : Tidy b) where
         live-same = λ m p ne. same-live b _ T U m p (S m p ne);
         given-same = λ m p ne. same-given b _ T U m p (S m p ne);
         back-same = λ m p ne. same-back b _ T U m p (S m p ne);
-        done-same = λ m p ne. inl (same-done b _ T U m p (S m p ne) refl)
+        done-same = λ m p ne. inl (same-done b _ T U m p (S m p ne) refl);
       }
     where
       k : ℕ
       k = place (b .letters) n
+
       U : Tidy (record { highest = b .highest; letters = b .letters; given = set (b .given) k given; back = set (b .back) k back })
       U = record { letters = T .letters; given = length-set (b .given) k given ∙ T .given; back = length-set (b .back) k back ∙ T .back; apart = T .apart; low = T .low }
+
       S : (m : ℕ) → 1 ≤ m → (m ≡ n → ⊥) → Stays m b (record { highest = b .highest; letters = b .letters; given = set (b .given) k given; back = set (b .back) k back })
       S m p ne =
           let x = not-there k n m l (own n l) ne in
@@ -150,16 +154,16 @@ module _ (b : Boss) (T : Tidy b) where
   gave n l =
       let k = place (b .letters) n in
       rw (own-given n l, own-back n l)
-        (subst (λ (ws : List ℕ). Booked n true false (getD (b .given) k 0 + grant) (getD (b .back) k 0) b (record { highest = b .highest; letters = b .letters; given = set (b .given) k (getD (b .given) k 0 + grant); back = ws }))
-          (set-getD (b .back) k 0) (counted n (getD (b .given) k 0 + grant) (getD (b .back) k 0) l))
+      (subst (λ (ws : List ℕ). Booked n true false (getD (b .given) k 0 + grant) (getD (b .back) k 0) b (record { highest = b .highest; letters = b .letters; given = set (b .given) k (getD (b .given) k 0 + grant); back = ws }))
+      (set-getD (b .back) k 0) (counted n (getD (b .given) k 0 + grant) (getD (b .back) k 0) l))
 
   pub returned : (n c : ℕ) → place (b .letters) n < 64 →
-    Booked n true false (givenOf b n) (backOf b n + c) b (record { highest = b .highest; letters = b .letters; given = b .given; back = set (b .back) (place (b .letters) n) (getD (b .back) (place (b .letters) n) 0 + c) })
+      Booked n true false (givenOf b n) (backOf b n + c) b (record { highest = b .highest; letters = b .letters; given = b .given; back = set (b .back) (place (b .letters) n) (getD (b .back) (place (b .letters) n) 0 + c) })
   returned n c l =
       let k = place (b .letters) n in
       rw (own-given n l, own-back n l)
-        (subst (λ (ws : List ℕ). Booked n true false (getD (b .given) k 0) (getD (b .back) k 0 + c) b (record { highest = b .highest; letters = b .letters; given = ws; back = set (b .back) k (getD (b .back) k 0 + c) }))
-          (set-getD (b .given) k 0) (counted n (getD (b .given) k 0) (getD (b .back) k 0 + c) l))
+      (subst (λ (ws : List ℕ). Booked n true false (getD (b .given) k 0) (getD (b .back) k 0 + c) b (record { highest = b .highest; letters = b .letters; given = ws; back = set (b .back) k (getD (b .back) k 0 + c) }))
+      (set-getD (b .given) k 0) (counted n (getD (b .given) k 0) (getD (b .back) k 0 + c) l))
 
   -- a place is entered anew: what stands elsewhere stays
   entry-tidy : (top k n given : ℕ) → k < 64 → Apart (set (b .letters) k n) → b .highest ≤ top → n ≤ top → Tidy (entered b top k n given)
@@ -169,9 +173,10 @@ module _ (b : Boss) (T : Tidy b) where
         given = length-set (b .given) k given ∙ T .given;
         back = length-set (b .back) k 0 ∙ T .back;
         apart = A;
-        low = λ j lj. elim (eqb-tells j k)
-          [ inl s ↦ omega (arith, ap (λ (a : ℕ). getD (set (b .letters) k n) a 0) (s .1), getD-set-same (b .letters) k n 0 (omega (arith, T .letters)))
-          | inr s ↦ omega (arith, T .low j lj, getD-set-other (b .letters) k j n 0 (s .1)) ]
+        low = λ j lj. elim (eqb-tells j k) [
+          | inl s ↦ omega (arith, ap (λ (a : ℕ). getD (set (b .letters) k n) a 0) (s .1), getD-set-same (b .letters) k n 0 (omega (arith, T .letters)))
+          | inr s ↦ omega (arith, T .low j lj, getD-set-other (b .letters) k j n 0 (s .1))
+        ];
       }
 
   entry-stays : (top k n given m : ℕ) → k < 64 → 1 ≤ m → (getD (b .letters) k 0 ≡ m → ⊥) → (n ≡ m → ⊥) → Stays m b (entered b top k n given)
@@ -180,7 +185,7 @@ module _ (b : Boss) (T : Tidy b) where
       record {
         place-is = seek-set-other (b .letters) k n m was is;
         given-is = getD-set-other (b .given) k (seek (b .letters) m) given 0 x;
-        back-is = getD-set-other (b .back) k (seek (b .letters) m) 0 0 x
+        back-is = getD-set-other (b .back) k (seek (b .letters) m) 0 0 x;
       }
 
   -- a new letter is opened at a free place
@@ -195,29 +200,39 @@ module _ (b : Boss) (T : Tidy b) where
         live-same = λ m p ne. same-live b c T U m p (S m p ne);
         given-same = λ m p ne. same-given b c T U m p (S m p ne);
         back-same = λ m p ne. same-back b c T U m p (S m p ne);
-        done-same = λ m p ne. skip-done b c T U m p (S m p ne) (omega arith)
+        done-same = λ m p ne. skip-done b c T U m p (S m p ne) (omega arith);
       }
     where
       k : ℕ
       k = seek (b .letters) 0
+
       pos : 1 ≤ n
       pos = omega arith
+
       free : getD (b .letters) k 0 ≡ 0
       free = seek-at (b .letters) 0 (omega (arith, T .letters))
+
       absent : seek (b .letters) n ≡ length (b .letters)
       absent = seek-out (b .letters) n (λ j lj e. omega (arith, T .low j (omega (arith, T .letters)), e))
+
       F : Fits (b .letters) k n
       F = inr (free, absent)
+
       inside : k < length (b .letters)
       inside = omega (arith, T .letters)
+
       c : Boss
       c = entered b n k n grant
+
       U : Tidy (entered b n k n grant)
       U = entry-tidy n k n grant l (apart-fits (b .letters) k n (T .apart) inside F) (omega arith) (omega arith)
+
       here : seek (set (b .letters) k n) n ≡ k
       here = seek-fits (b .letters) k n (T .apart) inside pos F
+
       live : isOpen (entered b n k n grant) n ≡ true
       live = open-is (entered b n k n grant) n pos ∙ lt-ltb (seek (set (b .letters) k n) n) 64 (omega (arith, here))
+
       S : (m : ℕ) → 1 ≤ m → (m ≡ n → ⊥) → Stays m b (entered b n k n grant)
       S m p ne = entry-stays n k n grant m l p (λ q. omega (arith, free, q)) (λ q. ne (sym q))
 
@@ -233,21 +248,27 @@ module _ (b : Boss) (T : Tidy b) where
         live-same = λ m p ne. same-live b c T U m p (S m p ne);
         given-same = λ m p ne. same-given b c T U m p (S m p ne);
         back-same = λ m p ne. same-back b c T U m p (S m p ne);
-        done-same = λ m p ne. inl (same-done b c T U m p (S m p ne) refl)
+        done-same = λ m p ne. inl (same-done b c T U m p (S m p ne) refl);
       }
     where
       k : ℕ
       k = place (b .letters) n
+
       inside : k < length (b .letters)
       inside = omega (arith, T .letters)
+
       pos : 1 ≤ n
       pos = placed (b .letters) n l
+
       c : Boss
       c = entered b (b .highest) k 0 0
+
       U : Tidy (entered b (b .highest) k 0 0)
       U = entry-tidy (b .highest) k 0 0 l (apart-set (b .letters) k 0 (T .apart) inside (λ j lj ne q p. omega arith)) (omega arith) (omega arith)
+
       live : isOpen (entered b (b .highest) k 0 0) n ≡ false
       live = open-is (entered b (b .highest) k 0 0) n pos ∙ le-ltb (seek (set (b .letters) k 0) n) 64 (omega (arith, seek-set-gone (b .letters) k 0 n (T .apart) inside (own n l) pos (λ q. omega (arith, pos)), T .letters))
+
       S : (m : ℕ) → 1 ≤ m → (m ≡ n → ⊥) → Stays m b (entered b (b .highest) k 0 0)
       S m p ne = entry-stays (b .highest) k 0 0 m l p (λ q. ne (sym q ∙ own n l)) (λ q. omega arith)
 
@@ -258,7 +279,7 @@ tidy-new =
       given = refl;
       back = refl;
       apart = λ a b la lb e p. absurd (omega (arith, getD-replicate {A = ℕ} 64 a 0 0 la));
-      low = λ k l. omega (arith, getD-replicate {A = ℕ} 64 k 0 0 l)
+      low = λ k l. omega (arith, getD-replicate {A = ℕ} 64 k 0 0 l);
     }
 
 pub new-live : (n : ℕ) → 1 ≤ n → isOpen newBoss n ≡ false

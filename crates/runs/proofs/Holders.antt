@@ -1,23 +1,20 @@
 -- A helper's table: what a write at one place does to each letter.
-use Prim.Native.Nat.{ℕ, zero, suc, _+_, _<_, _≤_}
+use Prim.Native.Nat.{ℕ, _<_, _≤_}
 use mathlib.Core.Path.{_≡_, refl, sym, ap, subst, _∙_}
-use mathlib.Core.Logic.{_⊎_, inl, inr, ⊎-elim}
-use mathlib.Core.Bool.{Bool, true, false, cond}
-use mathlib.Core.List.{List, [], _∷_}
+use mathlib.Core.Logic.{inl, inr}
+use mathlib.Core.List.{List}
 use native.Mathlib.Omega.{arith}
-use lib.Dec.{eqb, ltb}
+use lib.Dec.{ltb}
 use lib.ListN.{length, getD, set, replicate}
-use Rattle.std.proofs.shelf.Lists.{length-set, getD-set-same, getD-set-other, getD-past, set-getD, getD-replicate, length-replicate}
-use Rattle.std.proofs.shelf.Tests.{eqb-true, eqb-false, eq-eqb, ne-eqb}
-use Rattle.std.proofs.shelf.Ways.{tells, eqb-tells, leb-tells}
+use Rattle.std.proofs.shelf.Lists.{length-set, getD-set-same, getD-set-other, getD-past, set-getD, getD-replicate}
+use Rattle.std.proofs.shelf.Ways.{eqb-tells}
 use borrow.Author.Tests.{ltb-true, ltb-false}
-use Rattle.coins.specs.declared.ids.NodeId.{NodeId}
 use Rattle.coins.specs.declared.holding.Holding.{Holding}
 use Rattle.coins.specs.declared.helper.Helper.{Helper}
 use Rattle.coins.specs.Letters.{seek, place}
 use Rattle.coins.specs.Holdings.{idle}
-use Rattle.coins.specs.Helpers.{newHelper, at, holdingOf, slotFor, write, store, clear}
-use Rattle.runs.proofs.Tables.{by-test, seek-le, seek-at, seek-before, seek-out, seek-set-other, Apart, seek-apart, seek-set-gone, Fits, seek-fits, apart-set, apart-fits, fits-other, place-seek, placed}
+use Rattle.coins.specs.Helpers.{newHelper, at, holdingOf, slotFor, write, store}
+use Rattle.runs.proofs.Tables.{by-test, seek-le, seek-at, seek-out, seek-set-other, Apart, seek-set-gone, Fits, seek-fits, apart-set, apart-fits, fits-other, place-seek, placed}
 
 -- A table in order. A place is a letter's only while there are coins in it.
 pub record Tidy (i : ℕ) (h : Helper) : Type 0 where
@@ -32,8 +29,8 @@ pub record Tidy (i : ℕ) (h : Helper) : Type 0 where
 pub held-at : (i : ℕ) (h : Helper) (n : ℕ) → Tidy i h → 1 ≤ n → holdingOf h n ≡ at (h .holdings) (seek (h .letters) n)
 held-at i h n T pos =
     by-test (λ x. x ≡ at (h .holdings) (seek (h .letters) n)) (ltb (place (h .letters) n) 64) (at (h .holdings) (place (h .letters) n)) idle
-      (λ _. ap (λ (k : ℕ). at (h .holdings) k) (place-seek (h .letters) n pos))
-      (λ e. sym (getD-past (h .holdings) (seek (h .letters) n) idle (omega (arith, ltb-false _ _ e, place-seek (h .letters) n pos, T .holdings))))
+    (λ _. ap (λ (k : ℕ). at (h .holdings) k) (place-seek (h .letters) n pos))
+    (λ e. sym (getD-past (h .holdings) (seek (h .letters) n) idle (omega (arith, ltb-false _ _ e, place-seek (h .letters) n pos, T .holdings))))
 
 -- What becomes of a helper when its state of one letter comes to x.
 pub record Changed (i n : ℕ) (x : Holding) (h g : Helper) : Type 0 where
@@ -63,16 +60,19 @@ module _ (i : ℕ) (h : Helper) (T : Tidy i h) where
         letters = length-set (h .letters) k n ∙ T .letters;
         holdings = length-set (h .holdings) k x ∙ T .holdings;
         apart = A;
-        used = λ j lj p. elim (eqb-tells j k)
-          [ inl s ↦ omega (arith, u (omega (arith, letter-here j (s .1))), ap (λ (y : Holding). y .coins) (holding-here j (s .1)))
-          | inr s ↦ omega (arith, T .used j lj (omega (arith, getD-set-other (h .letters) k j n 0 (s .1))), ap (λ (y : Holding). y .coins) (getD-set-other (h .holdings) k j x idle (s .1))) ];
-        free = λ j lj p. elim (eqb-tells j k)
-          [ inl s ↦ omega (arith, f (omega (arith, letter-here j (s .1))), ap (λ (y : Holding). y .coins) (holding-here j (s .1)))
-          | inr s ↦ omega (arith, T .free j lj (omega (arith, getD-set-other (h .letters) k j n 0 (s .1))), ap (λ (y : Holding). y .coins) (getD-set-other (h .holdings) k j x idle (s .1))) ]
+        used = λ j lj p. elim (eqb-tells j k) [
+          | inl s ↦ omega (arith, u (omega (arith, letter-here j (s .1))), ap (λ (y : Holding). y .coins) (holding-here j (s .1)))
+          | inr s ↦ omega (arith, T .used j lj (omega (arith, getD-set-other (h .letters) k j n 0 (s .1))), ap (λ (y : Holding). y .coins) (getD-set-other (h .holdings) k j x idle (s .1)))
+        ];
+        free = λ j lj p. elim (eqb-tells j k) [
+          | inl s ↦ omega (arith, f (omega (arith, letter-here j (s .1))), ap (λ (y : Holding). y .coins) (holding-here j (s .1)))
+          | inr s ↦ omega (arith, T .free j lj (omega (arith, getD-set-other (h .letters) k j n 0 (s .1))), ap (λ (y : Holding). y .coins) (getD-set-other (h .holdings) k j x idle (s .1)))
+        ];
       }
     where
       letter-here : (j : ℕ) → j ≡ k → getD (set (h .letters) k n) j 0 ≡ n
       letter-here j q = ap (λ (a : ℕ). getD (set (h .letters) k n) a 0) q ∙ getD-set-same (h .letters) k n 0 (in-letters k l)
+
       holding-here : (j : ℕ) → j ≡ k → at (set (h .holdings) k x) j ≡ x
       holding-here j q = ap (λ (a : ℕ). at (set (h .holdings) k x) a) q ∙ getD-set-same (h .holdings) k x idle (in-holdings k l)
 
@@ -82,7 +82,7 @@ module _ (i : ℕ) (h : Helper) (T : Tidy i h) where
       record {
         tidy = W;
         here = held-at i (write h k n x) n W pos ∙ ap (λ (j : ℕ). at (set (h .holdings) k x) j) (seek-fits (h .letters) k n (T .apart) (in-letters k l) pos F) ∙ getD-set-same (h .holdings) k x idle (in-holdings k l);
-        others = λ m p ne. elsewhere k n m x l p (fits-other (h .letters) k n m F p ne) (λ q. ne (sym q)) W
+        others = λ m p ne. elsewhere k n m x l p (fits-other (h .letters) k n m F p ne) (λ q. ne (sym q)) W;
       }
     where
       W : Tidy i (write h k n x)
@@ -94,7 +94,7 @@ module _ (i : ℕ) (h : Helper) (T : Tidy i h) where
       record {
         tidy = W;
         here = held-at i (write h k 0 idle) n W pos ∙ ap (λ (j : ℕ). at (set (h .holdings) k idle) j) (seek-set-gone (h .letters) k 0 n (T .apart) (in-letters k l) e pos (λ q. omega arith)) ∙ getD-past (set (h .holdings) k idle) (length (h .letters)) idle (omega (arith, length-set (h .holdings) k idle, T .letters, T .holdings));
-        others = λ m p ne. elsewhere k 0 m idle l p (λ q. ne (sym q ∙ e)) (λ q. omega arith) W
+        others = λ m p ne. elsewhere k 0 m idle l p (λ q. ne (sym q ∙ e)) (λ q. omega arith) W;
       }
     where
       W : Tidy i (write h k 0 idle)
@@ -127,14 +127,14 @@ module _ (i : ℕ) (h : Helper) (T : Tidy i h) where
   pub slot-fits : (n : ℕ) → 1 ≤ n → slotFor h n < 64 → Fits (h .letters) (slotFor h n) n
   slot-fits n pos =
       by-test (λ k. k < 64 → Fits (h .letters) k n) (ltb (place (h .letters) n) 64) (place (h .letters) n) (seek (h .letters) 0)
-        (λ t _. inl (own n (ltb-true _ _ t)))
-        (λ f l. inr (seek-at (h .letters) 0 (in-letters _ l), omega (arith, ltb-false _ _ f, place-seek (h .letters) n pos, seek-le (h .letters) n, T .letters)))
+      (λ t _. inl (own n (ltb-true _ _ t)))
+      (λ f l. inr (seek-at (h .letters) 0 (in-letters _ l), omega (arith, ltb-false _ _ f, place-seek (h .letters) n pos, seek-le (h .letters) n, T .letters)))
 
   -- a letter with coins has a place
   pub has-place : (n : ℕ) → 1 ≤ n → 1 ≤ holdingOf h n .coins → place (h .letters) n < 64
   has-place n pos =
       by-test (λ x. 1 ≤ x .coins → place (h .letters) n < 64) (ltb (place (h .letters) n) 64) (at (h .holdings) (place (h .letters) n)) idle
-        (λ t _. ltb-true _ _ t) (λ _ z. absurd (omega arith))
+      (λ t _. ltb-true _ _ t) (λ _ z. absurd (omega arith))
 
 pub tidy-new : (i : ℕ) → Tidy i (newHelper (record { number = i }))
 tidy-new i =
@@ -144,7 +144,7 @@ tidy-new i =
       holdings = refl;
       apart = λ a b la lb e p. absurd (omega (arith, getD-replicate {A = ℕ} 64 a 0 0 la));
       used = λ k l p. absurd (omega (arith, getD-replicate {A = ℕ} 64 k 0 0 l));
-      free = λ k l p. ap (λ (y : Holding). y .coins) (getD-replicate 64 k idle idle l)
+      free = λ k l p. ap (λ (y : Holding). y .coins) (getD-replicate 64 k idle idle l);
     }
 
 pub new-holding : (i n : ℕ) → 1 ≤ n → holdingOf (newHelper (record { number = i })) n ≡ idle

@@ -1,12 +1,10 @@
 -- The messages from one to another are a queue.
-use Prim.Native.Nat.{ℕ, zero, suc, _+_, _<_, _≤_}
-use mathlib.Core.Path.{_≡_, refl, sym, ap, subst, _∙_}
-use mathlib.Core.Logic.{_⊎_, inl, inr}
-use mathlib.Core.Bool.{Bool, true, false, cond, _&&_}
+use Prim.Native.Nat.{ℕ, zero, suc, _+_, _<_}
+use mathlib.Core.Path.{_≡_, refl, sym, ap, _∙_}
+use mathlib.Core.Bool.{Bool, true, false, cond}
 use mathlib.Core.List.{List, [], _∷_, _++_}
 use native.Mathlib.Omega.{arith}
-use lib.Dec.{eqb}
-use lib.ListN.{length, getD, take, drop}
+use lib.ListN.{length, take, drop}
 use Rattle.std.specs.Holes.{removed}
 use Rattle.std.specs.shelf.Lists.{kept-by}
 use Rattle.std.proofs.shelf.Elements.{kept-by-append}
@@ -15,7 +13,6 @@ use Rattle.coins.specs.declared.ids.NodeId.{NodeId}
 use Rattle.coins.specs.declared.mail.Mail.{Mail}
 use Rattle.runs.specs.System.{First, mailAt, onLine, head}
 use Rattle.runs.specs.Lines.{queue, LinesAreQueues}
-use Rattle.runs.proofs.Tables.{by-test}
 use Rattle.runs.proofs.Views.{around}
 
 -- before the first of a line there is none of it

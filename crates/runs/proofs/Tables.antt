@@ -1,15 +1,15 @@
 -- Tables of 64 letters: where a letter stands, and what a write at one place leaves of the others.
-use Prim.Native.Nat.{ℕ, zero, suc, _+_, _<_, _≤_}
-use mathlib.Core.Path.{_≡_, refl, sym, ap, subst, _∙_}
-use mathlib.Core.Logic.{_⊎_, inl, inr, ⊎-elim, _≢_}
+use Prim.Native.Nat.{ℕ, zero, suc, _<_, _≤_}
+use mathlib.Core.Path.{_≡_, refl, sym, ap, _∙_}
+use mathlib.Core.Logic.{_⊎_, inl, inr}
 use mathlib.Core.Bool.{Bool, true, false, cond}
 use mathlib.Core.List.{List, [], _∷_}
 use native.Mathlib.Omega.{arith}
-use lib.Dec.{eqb, ltb}
-use lib.ListN.{length, getD, set, replicate}
-use Rattle.std.proofs.shelf.Lists.{length-set, getD-set-same, getD-set-other, getD-past}
-use Rattle.std.proofs.shelf.Tests.{eqb-true, eqb-false, eq-eqb, ne-eqb}
-use Rattle.std.proofs.shelf.Ways.{tells, eqb-tells, leb-tells}
+use lib.Dec.{eqb}
+use lib.ListN.{length, getD, set}
+use Rattle.std.proofs.shelf.Lists.{length-set, getD-set-same, getD-set-other}
+use Rattle.std.proofs.shelf.Tests.{eqb-true, eqb-false, ne-eqb}
+use Rattle.std.proofs.shelf.Ways.{eqb-tells, leb-tells}
 use Rattle.coins.specs.Letters.{seek, place}
 
 -- by the two ways of a test
@@ -36,9 +36,10 @@ seek-before (x ∷ xs) n (suc k) h e = seek-before xs n k (by-test (λ s. suc k 
 -- a number that stands nowhere
 pub seek-out : (xs : List ℕ) (n : ℕ) → ((k : ℕ) → k < length xs → getD xs k 0 ≡ n → ⊥) → seek xs n ≡ length xs
 seek-out xs n no-place =
-    elim (leb-tells (length xs) (seek xs n))
-      [ inl t ↦ omega (arith, t .1, seek-le xs n)
-      | inr t ↦ absurd (no-place (seek xs n) (t .1) (seek-at xs n (t .1))) ]
+    elim (leb-tells (length xs) (seek xs n)) [
+      | inl t ↦ omega (arith, t .1, seek-le xs n)
+      | inr t ↦ absurd (no-place (seek xs n) (t .1) (seek-at xs n (t .1)))
+    ]
 
 pub seek-set-other : (xs : List ℕ) (i y n : ℕ) → (getD xs i 0 ≡ n → ⊥) → (y ≡ n → ⊥) → seek (set xs i y) n ≡ seek xs n
 unfolding seek
@@ -50,11 +51,13 @@ pub seek-set-new : (xs : List ℕ) (i n : ℕ) → i < length xs → seek xs n �
 seek-set-new xs i n lt out =
     let l = length-set xs i n in
     let here : getD (set xs i n) i 0 ≡ n = getD-set-same xs i n 0 lt in
-    elim (leb-tells (seek (set xs i n) n) i)
-      [ inl t ↦ elim (eqb-tells (seek (set xs i n) n) i)
-          [ inl s ↦ s .1
-          | inr s ↦ absurd (seek-before xs n (seek (set xs i n) n) (omega (arith, t .1, out)) (sym (getD-set-other xs i (seek (set xs i n) n) n 0 (s .1)) ∙ seek-at (set xs i n) n (omega (arith, t .1, l)))) ]
-      | inr t ↦ absurd (seek-before (set xs i n) n i (t .1) here) ]
+    elim (leb-tells (seek (set xs i n) n) i) [
+      | inl t ↦ elim (eqb-tells (seek (set xs i n) n) i) [
+        | inl s ↦ s .1
+        | inr s ↦ absurd (seek-before xs n (seek (set xs i n) n) (omega (arith, t .1, out)) (sym (getD-set-other xs i (seek (set xs i n) n) n 0 (s .1)) ∙ seek-at (set xs i n) n (omega (arith, t .1, l))))
+      ]
+      | inr t ↦ absurd (seek-before (set xs i n) n i (t .1) here)
+    ]
 
 -- no letter stands at two places
 abbrev pub Apart : List ℕ → Type 0
@@ -62,9 +65,10 @@ Apart xs = (i j : ℕ) → i < length xs → j < length xs → getD xs i 0 ≡ g
 
 pub seek-apart : (xs : List ℕ) (n k : ℕ) → Apart xs → k < length xs → getD xs k 0 ≡ n → 1 ≤ n → seek xs n ≡ k
 seek-apart xs n k A lt e pos =
-    elim (leb-tells (length xs) (seek xs n))
-      [ inl t ↦ absurd (seek-before xs n k (omega (arith, t .1)) e)
-      | inr t ↦ let s = seek-at xs n (t .1) in A (seek xs n) k (t .1) lt (s ∙ sym e) (omega (arith, s)) ]
+    elim (leb-tells (length xs) (seek xs n)) [
+      | inl t ↦ absurd (seek-before xs n k (omega (arith, t .1)) e)
+      | inr t ↦ let s = seek-at xs n (t .1) in A (seek xs n) k (t .1) lt (s ∙ sym e) (omega (arith, s))
+    ]
 
 pub seek-set-gone : (xs : List ℕ) (i y n : ℕ) → Apart xs → i < length xs → getD xs i 0 ≡ n → 1 ≤ n → (y ≡ n → ⊥) → seek (set xs i y) n ≡ length xs
 seek-set-gone xs i y n A lt e pos ne =
@@ -72,9 +76,10 @@ seek-set-gone xs i y n A lt e pos ne =
   where
     no-place : (k : ℕ) → k < length (set xs i y) → getD (set xs i y) k 0 ≡ n → ⊥
     no-place k l q =
-        elim (eqb-tells k i)
-          [ inl s ↦ ne (sym (getD-set-same xs i y 0 lt) ∙ ap (λ (j : ℕ). getD (set xs i y) j 0) (sym (s .1)) ∙ q)
-          | inr s ↦ let h : getD xs k 0 ≡ n = sym (getD-set-other xs i k y 0 (s .1)) ∙ q in s .1 (A k i (omega (arith, length-set xs i y)) lt (h ∙ sym e) (omega (arith, h))) ]
+        elim (eqb-tells k i) [
+          | inl s ↦ ne (sym (getD-set-same xs i y 0 lt) ∙ ap (λ (j : ℕ). getD (set xs i y) j 0) (sym (s .1)) ∙ q)
+          | inr s ↦ let h : getD xs k 0 ≡ n = sym (getD-set-other xs i k y 0 (s .1)) ∙ q in s .1 (A k i (omega (arith, length-set xs i y)) lt (h ∙ sym e) (omega (arith, h)))
+        ]
 
 pub apart-set : (xs : List ℕ) (i n : ℕ) → Apart xs → i < length xs → ((k : ℕ) → k < length xs → (k ≡ i → ⊥) → getD xs k 0 ≡ n → 1 ≤ n → ⊥) → Apart (set xs i n)
 apart-set xs i n A lt new a b la lb e pos =
@@ -82,13 +87,16 @@ apart-set xs i n A lt new a b la lb e pos =
     let here : getD (set xs i n) i 0 ≡ n = getD-set-same xs i n 0 lt in
     let at : (k : ℕ) → (k ≡ i → ⊥) → getD (set xs i n) k 0 ≡ getD xs k 0 = λ k ne. getD-set-other xs i k n 0 ne in
     let is : (k : ℕ) → k ≡ i → getD (set xs i n) k 0 ≡ n = λ k q. ap (λ (j : ℕ). getD (set xs i n) j 0) q ∙ here in
-    elim (eqb-tells a i)
-      [ inl p ↦ elim (eqb-tells b i)
-          [ inl q ↦ p .1 ∙ sym (q .1)
-          | inr q ↦ absurd (new b (omega (arith, l)) (q .1) (sym (at b (q .1)) ∙ sym e ∙ is a (p .1)) (omega (arith, is a (p .1)))) ]
-      | inr p ↦ elim (eqb-tells b i)
-          [ inl q ↦ absurd (new a (omega (arith, l)) (p .1) (sym (at a (p .1)) ∙ e ∙ is b (q .1)) (omega (arith, e, is b (q .1))))
-          | inr q ↦ A a b (omega (arith, l)) (omega (arith, l)) (sym (at a (p .1)) ∙ e ∙ at b (q .1)) (omega (arith, at a (p .1))) ] ]
+    elim (eqb-tells a i) [
+      | inl p ↦ elim (eqb-tells b i) [
+        | inl q ↦ p .1 ∙ sym (q .1)
+        | inr q ↦ absurd (new b (omega (arith, l)) (q .1) (sym (at b (q .1)) ∙ sym e ∙ is a (p .1)) (omega (arith, is a (p .1))))
+      ]
+      | inr p ↦ elim (eqb-tells b i) [
+        | inl q ↦ absurd (new a (omega (arith, l)) (p .1) (sym (at a (p .1)) ∙ e ∙ is b (q .1)) (omega (arith, e, is b (q .1))))
+        | inr q ↦ A a b (omega (arith, l)) (omega (arith, l)) (sym (at a (p .1)) ∙ e ∙ at b (q .1)) (omega (arith, at a (p .1)))
+      ]
+    ]
 
 -- the place i is the letter's own, or is free while the letter has none
 abbrev pub Fits : List ℕ → ℕ → ℕ → Type 0
@@ -128,18 +136,18 @@ module _ (n : ℕ) (f : ℕ → ℕ) (small : (i : ℕ) → i ≤ suc n → f i 
       let s = small i (omega arith) in
       let t = small (suc n) (omega arith) in
       by-test (λ k. k < n) (eqb (f i) n) (f (suc n)) (f i)
-        (λ e. let q = eqb-true (f i) n e in let a : f (suc n) ≡ n → ⊥ = λ z. not-last i l (q ∙ sym z) in omega arith)
-        (λ e. let q = eqb-false (f i) n e in omega arith)
+      (λ e. let q = eqb-true (f i) n e in let a : f (suc n) ≡ n → ⊥ = λ z. not-last i l (q ∙ sym z) in omega arith)
+      (λ e. let q = eqb-false (f i) n e in omega arith)
 
   squeezed-one : (i j : ℕ) → i ≤ n → j ≤ n → squeezed i ≡ squeezed j → i ≡ j
   squeezed-one i j li lj =
       by-test (λ a. a ≡ squeezed j → i ≡ j) (eqb (f i) n) (f (suc n)) (f i)
-        (λ e. by-test (λ b. f (suc n) ≡ b → i ≡ j) (eqb (f j) n) (f (suc n)) (f j)
-          (λ d _. one i j (omega arith) (omega arith) (eqb-true (f i) n e ∙ sym (eqb-true (f j) n d)))
-          (λ _ q. absurd (not-last j lj (sym q))))
-        (λ e. by-test (λ b. f i ≡ b → i ≡ j) (eqb (f j) n) (f (suc n)) (f j)
-          (λ _ q. absurd (not-last i li q))
-          (λ _ q. one i j (omega arith) (omega arith) q))
+      (λ e. by-test (λ b. f (suc n) ≡ b → i ≡ j) (eqb (f j) n) (f (suc n)) (f j)
+      (λ d _. one i j (omega arith) (omega arith) (eqb-true (f i) n e ∙ sym (eqb-true (f j) n d)))
+      (λ _ q. absurd (not-last j lj (sym q))))
+      (λ e. by-test (λ b. f i ≡ b → i ≡ j) (eqb (f j) n) (f (suc n)) (f j)
+      (λ _ q. absurd (not-last i li q))
+      (λ _ q. one i j (omega arith) (omega arith) q))
 
 pub pigeons : (n : ℕ) (f : ℕ → ℕ) → ((i : ℕ) → i ≤ n → f i < n) → ((i j : ℕ) → i ≤ n → j ≤ n → f i ≡ f j → i ≡ j) → ⊥
 pigeons zero f small one = absurd (let h = small 0 (omega arith) in omega arith)

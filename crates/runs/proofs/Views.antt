@@ -1,25 +1,21 @@
 -- What one letter sees of a change.
-use Prim.Native.Nat.{ℕ, zero, suc, _+_, _<_, _≤_}
-use mathlib.Core.Path.{_≡_, refl, sym, ap, subst, _∙_}
-use mathlib.Core.Logic.{_⊎_, inl, inr, ⊎-elim}
-use mathlib.Core.Bool.{Bool, true, false, cond}
-use mathlib.Core.List.{List, [], _∷_, _++_, map}
-use native.Mathlib.Omega.{arith}
+use Prim.Native.Nat.{ℕ, suc, _+_, _<_}
+use mathlib.Core.Path.{_≡_, refl, sym, ap, _∙_}
+use mathlib.Core.Bool.{true, false}
+use mathlib.Core.List.{List, [], _∷_, _++_}
 use native.Mathlib.Numerals.{add-one}
-use lib.Dec.{eqb, ltb}
-use lib.ListN.{length, getD, set, take, drop}
+use lib.ListN.{length, set, take, drop}
 use Rattle.std.specs.Holes.{removed}
-use Rattle.std.specs.shelf.Lists.{All, kept-by}
-use Rattle.std.proofs.shelf.Lists.{length-set, length-map, map-set, getD-map, getD-past, set-getD, take-append-drop, drop-more, append-nil}
+use Rattle.std.specs.shelf.Lists.{All}
+use Rattle.std.proofs.shelf.Lists.{length-map, map-set, getD-map, set-getD, take-append-drop, drop-more, append-nil}
 use Rattle.std.proofs.shelf.Elements.{kept-by-append, all-append, all-take, all-drop}
 use Rattle.coins.specs.declared.mail.Mail.{Mail}
 use Rattle.coins.specs.declared.helper.Helper.{Helper}
 use Rattle.coins.specs.declared.holding.Holding.{Holding}
 use Rattle.coins.specs.Holdings.{idle}
-use Rattle.coins.specs.Helpers.{holdingOf, newHelper}
-use Rattle.runs.specs.System.{noHelper, World, helperAt, mailAt, noMail}
-use Rattle.runs.specs.Letter.{View, view, isOf, holdingsOf, postOf, holdingAt}
-use Rattle.runs.proofs.Holders.{new-holding}
+use Rattle.coins.specs.Helpers.{holdingOf}
+use Rattle.runs.specs.System.{noHelper, helperAt, mailAt, noMail}
+use Rattle.runs.specs.Letter.{View, isOf, holdingsOf, postOf, holdingAt}
 
 pub held-length : (n : ℕ) (hs : List Helper) → length (holdingsOf n hs) ≡ length hs
 unfolding holdingsOf
@@ -77,5 +73,5 @@ all-gone P ms k h = all-append P (take k ms) (drop (suc k) ms) (all-take P k ms 
 
 -- a view whose holdings and messages come to these
 pub view-is : (v : View) (hs gs : List Holding) (ps qs : List Mail) → hs ≡ gs → ps ≡ qs →
-  _≡_ {A = View} (record { live = v .live; done = v .done; given = v .given; back = v .back; holdings = hs; post = ps }) (record { live = v .live; done = v .done; given = v .given; back = v .back; holdings = gs; post = qs })
+    _≡_ {A = View} (record { live = v .live; done = v .done; given = v .given; back = v .back; holdings = hs; post = ps }) (record { live = v .live; done = v .done; given = v .given; back = v .back; holdings = gs; post = qs })
 view-is v hs gs ps qs e f = cc

@@ -76,7 +76,7 @@ pub data Move : View → View → Type 0 where
       Move v (record { live = false; done = true; given = 0; back = 0; holdings = v .holdings; post = v .post })
   -- a number that was never given is passed over when one above it is opened: it will not be given any more
   skips : (v : View) → v .live ≡ false →
-    Move v (record { live = false; done = true; given = v .given; back = v .back; holdings = v .holdings; post = v .post })
+      Move v (record { live = false; done = true; given = v .given; back = v .back; holdings = v .holdings; post = v .post })
 
 -- whether a move gives work from the boss, and how many messages come by it
 abbrev pub isGiving : {v u : View} → Move v u → Bool

@@ -3,18 +3,16 @@ use Prim.Native.Nat.{ℕ, _+_, _*_, _<_, _≤_}
 use mathlib.Core.Path.{_≡_}
 use mathlib.Core.Logic.{_⊎_}
 use mathlib.Core.Bool.{Bool, true, false, cond}
-use mathlib.Core.List.{List, []}
+use mathlib.Core.List.{[]}
 use lib.Dec.{eqb}
 use lib.ListN.{length, getD}
 use Rattle.coins.specs.declared.ids.LetterId.{LetterId}
 use Rattle.coins.specs.declared.answer.Answer.the-variants.{Done}
 use Rattle.coins.specs.declared.mail.Kind.{Kind}
 use Rattle.coins.specs.declared.mail.Kind.the-variants.{Work, More, Back, NoMore, Ask}
-use Rattle.coins.specs.declared.mail.Mail.{Mail}
 use Rattle.coins.specs.declared.mail.Taking.{Taking}
 use Rattle.coins.specs.declared.mail.Taking.the-variants.{Took, Later, Refused}
 use Rattle.coins.specs.Limits.{bossNumber}
-use Rattle.coins.specs.Mails.{coinsIn}
 use Rattle.coins.specs.Holdings.{waits}
 use Rattle.coins.specs.Helpers.{seekWaiting, arriveStep}
 use Rattle.coins.specs.Bosses.{isOpen, sayStep, receiveStep}

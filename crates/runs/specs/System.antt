@@ -1,7 +1,7 @@
 -- The boss, the helpers and the messages between them, over lines that lose nothing; and every step of them all.
 use Prim.Native.Nat.{ℕ, zero, suc, _+_, _<_, _≤_}
 use mathlib.Core.Path.{_≡_}
-use mathlib.Core.Bool.{Bool, true, false, cond, _&&_}
+use mathlib.Core.Bool.{Bool, cond, _&&_}
 use mathlib.Core.List.{List, [], _∷_, _++_}
 use lib.Dec.{eqb}
 use lib.ListN.{length, getD, set}
@@ -17,9 +17,7 @@ use Rattle.coins.specs.declared.helper.Helper.{Helper}
 use Rattle.coins.specs.declared.boss.Boss.{Boss}
 use Rattle.coins.specs.Limits.{bossNumber}
 use Rattle.coins.specs.Helpers.{newHelper, shareStep, restStep, flushStep, arriveStep}
-use Rattle.coins.specs.Helpers.{Called as HelperCalled, Took-in as HelperTook, Flushed}
 use Rattle.coins.specs.Bosses.{newBoss, giveStep, sayStep, receiveStep}
-use Rattle.coins.specs.Bosses.{Called as BossCalled, Took-in as BossTook}
 
 -- post: the messages under way, the oldest first
 pub record World : Type 0 where

@@ -1,19 +1,17 @@
 -- Each message that comes, and each flush, leaves less to come.
-use Prim.Native.Nat.{ℕ, zero, suc, _+_, _-_, _<_, _≤_}
-use mathlib.Core.Path.{_≡_, refl, sym, ap, subst, _∙_}
-use mathlib.Core.Logic.{_⊎_, inl, inr, ⊎-elim}
-use mathlib.Core.Bool.{Bool, true, false, cond, _&&_, _||_, not}
-use mathlib.Core.List.{List, [], _∷_, _++_}
+use Prim.Native.Nat.{ℕ, suc, _+_, _-_, _<_, _≤_}
+use mathlib.Core.Path.{_≡_, refl, ap}
+use mathlib.Core.Bool.{true, cond, _&&_, _||_, not}
+use mathlib.Core.List.{List, []}
 use native.Mathlib.Omega.{arith}
 use lib.Dec.{eqb, ltb, leb}
 use lib.ListN.{length, getD, set, take, drop}
 use Rattle.std.specs.Holes.{removed}
-use Rattle.std.specs.shelf.Lists.{sumBy}
 use Rattle.std.proofs.shelf.Lists.{append-nil}
 use Rattle.std.proofs.shelf.Sums.{sumBy-set}
 use Rattle.std.proofs.shelf.Tests.{eqb-true}
 use Rattle.std.proofs.shelf.Ways.{tells}
-use borrow.Author.Tests.{ltb-true, ltb-false}
+use borrow.Author.Tests.{ltb-true}
 use Rattle.coins.specs.declared.ids.LetterId.{LetterId}
 use Rattle.coins.specs.declared.ids.NodeId.{NodeId}
 use Rattle.coins.specs.declared.mail.Kind.{Kind}
@@ -29,12 +27,12 @@ use Rattle.coins.specs.declared.boss.Boss.{Boss}
 use Rattle.coins.specs.Limits.{grant, limit}
 use Rattle.coins.specs.Letters.{place}
 use Rattle.coins.specs.Holdings.{idle, took, answered, waits}
-use Rattle.coins.specs.Helpers.{at, holdingOf, slotFor, write, store, clear, counts, seekWaiting, flushStep, workStep, moreStep, noMoreAt, noMoreStep, arriveStep}
+use Rattle.coins.specs.Helpers.{at, holdingOf, slotFor, clear, counts, seekWaiting, flushStep, workStep, moreStep, noMoreAt, arriveStep}
 use Rattle.coins.specs.Helpers.{Took-in as HelperTook, Flushed}
-use Rattle.coins.specs.Bosses.{backStep, askStep, receiveStep}
+use Rattle.coins.specs.Bosses.{receiveStep}
 use Rattle.coins.specs.Bosses.{Took-in as BossTook}
 use Rattle.runs.specs.System.{World, helperAt, noHelper, mailAt, sent}
-use Rattle.runs.specs.Letter.{weigh, delay, mailed, delayed, holdingAt}
+use Rattle.runs.specs.Letter.{weigh, delay, mailed, delayed}
 use Rattle.runs.proofs.Tables.{by-test}
 use Rattle.runs.proofs.Counts.{mailed-split, delayed-set}
 use Rattle.runs.proofs.Holders.{Tidy}
@@ -73,10 +71,10 @@ module _ (i : ℕ) (h : Helper) (T : Tidy i h) where
   work-lighter : (letter : LetterId) (c : ℕ) → Lightens 1 (workStep h letter c)
   work-lighter letter c =
       by-test (Lightens 1) (counts (holdingOf h n) c) _ _
-        (λ _. by-test (Lightens 1) (eqb n 0) _ _ (λ _. tt)
-          (λ _. by-test (Lightens 1) (ltb (slotFor h n) 64) _ _
-            (λ t. omega (arith, delayed-set (h .holdings) (slotFor h n) (took (holdingOf h n) c) (inside (slotFor h n) (ltb-true _ _ t)))) (λ _. tt)))
-        (λ _. tt)
+      (λ _. by-test (Lightens 1) (eqb n 0) _ _ (λ _. tt)
+      (λ _. by-test (Lightens 1) (ltb (slotFor h n) 64) _ _
+      (λ t. omega (arith, delayed-set (h .holdings) (slotFor h n) (took (holdingOf h n) c) (inside (slotFor h n) (ltb-true _ _ t)))) (λ _. tt)))
+      (λ _. tt)
     where
       n : ℕ
       n = letter .number
@@ -84,17 +82,17 @@ module _ (i : ℕ) (h : Helper) (T : Tidy i h) where
   clear-le : (k : ℕ) → delayed (clear h k .holdings) ≤ delayed (h .holdings)
   clear-le k =
       by-test (λ (g : Helper). delayed (g .holdings) ≤ delayed (h .holdings)) (ltb k 64) _ _
-        (λ t. omega (arith, delayed-set (h .holdings) k idle (inside k (ltb-true _ _ t)))) (λ _. omega arith)
+      (λ t. omega (arith, delayed-set (h .holdings) k idle (inside k (ltb-true _ _ t)))) (λ _. omega arith)
 
   more-lighter : (letter : LetterId) (c boss : ℕ) → Lightens 3 (moreStep h letter c boss)
   more-lighter letter c boss =
       by-test (Lightens 3) (counts (holdingOf h n) c) _ _
-        (λ _. by-test (Lightens 3) (eqb n 0) _ _ (λ _. tt)
-          (λ _. by-test (Lightens 3) (not (holdingOf h n .working) && ltb 0 boss) _ _
-            (λ _. omega (arith, clear-le (place (h .letters) n)))
-            (λ _. by-test (Lightens 3) (ltb (slotFor h n) 64) _ _
-              (λ t. omega (arith, delayed-set (h .holdings) (slotFor h n) (answered (holdingOf h n) c) (inside (slotFor h n) (ltb-true _ _ t)), delay-le (answered (holdingOf h n) c))) (λ _. tt))))
-        (λ _. tt)
+      (λ _. by-test (Lightens 3) (eqb n 0) _ _ (λ _. tt)
+      (λ _. by-test (Lightens 3) (not (holdingOf h n .working) && ltb 0 boss) _ _
+      (λ _. omega (arith, clear-le (place (h .letters) n)))
+      (λ _. by-test (Lightens 3) (ltb (slotFor h n) 64) _ _
+      (λ t. omega (arith, delayed-set (h .holdings) (slotFor h n) (answered (holdingOf h n) c) (inside (slotFor h n) (ltb-true _ _ t)), delay-le (answered (holdingOf h n) c))) (λ _. tt))))
+      (λ _. tt)
     where
       n : ℕ
       n = letter .number
@@ -105,7 +103,7 @@ module _ (i : ℕ) (h : Helper) (T : Tidy i h) where
   no-more-lighter : (k : ℕ) → delayed (noMoreAt h k .holdings) ≤ delayed (h .holdings)
   no-more-lighter k =
       by-test (λ (g : Helper). delayed (g .holdings) ≤ delayed (h .holdings)) (ltb k 64) _ _
-        (λ t. omega (arith, delayed-set (h .holdings) k (answered (at (h .holdings) k) 0) (inside k (ltb-true _ _ t)), heard-same (at (h .holdings) k))) (λ _. omega arith)
+      (λ t. omega (arith, delayed-set (h .holdings) k (answered (at (h .holdings) k) 0) (inside k (ltb-true _ _ t)), heard-same (at (h .holdings) k))) (λ _. omega arith)
 
   pub arrive-lighter : (letter : LetterId) (kind : Kind) (boss : ℕ) → Lighter h (weigh kind) (arriveStep h letter kind boss .helper) (arriveStep h letter kind boss .taking)
   arrive-lighter letter (Works c) boss = work-lighter letter c
@@ -118,13 +116,15 @@ module _ (i : ℕ) (h : Helper) (T : Tidy i h) where
   pub flush-lighter : (boss : ℕ) → 1 ≤ boss → seekWaiting (h .holdings) < 64 → delayed (flushStep h boss .helper .holdings) + weighs (flushStep h boss .post) + 1 ≤ delayed (h .holdings)
   flush-lighter boss some l =
       by-test (λ (d : Flushed). delayed (d .helper .holdings) + weighs (d .post) + 1 ≤ delayed (h .holdings)) (ltb k 64 && not (eqb boss 0)) _ _
-        (λ _. omega (arith, delayed-set (h .holdings) k idle (inside k l), waits-two (at (h .holdings) k) (waiting-at (h .holdings) (inside k l))))
-        (λ f. absurd (let z : (ltb k 64 && not (eqb boss 0)) ≡ true = free k boss l some in let y : _≡_ {A = ℕ} 0 1 = cc in omega arith))
+      (λ _. omega (arith, delayed-set (h .holdings) k idle (inside k l), waits-two (at (h .holdings) k) (waiting-at (h .holdings) (inside k l))))
+      (λ f. absurd (let z : (ltb k 64 && not (eqb boss 0)) ≡ true = free k boss l some in let y : _≡_ {A = ℕ} 0 1 = cc in omega arith))
     where
       k : ℕ
       k = seekWaiting (h .holdings)
+
       waits-two : (x : Holding) → waits x ≡ true → delay x ≡ 2
       waits-two x e = rw e
+
       free : (a b : ℕ) → a < 64 → 1 ≤ b → (ltb a 64 && not (eqb b 0)) ≡ true
       free a b la lb = grind (arith, tells)
 
@@ -140,21 +140,21 @@ receive-lighter b sender letter (More c) places f = tt
 receive-lighter b sender letter NoMore places f = tt
 receive-lighter b sender letter (Back c) places f =
     by-test P (eqb c 0 || leb 64 (place (b .letters) (letter .number))) _ _ (λ _. tt)
-      (λ _. by-test P (leb (getD (b .back) (place (b .letters) (letter .number)) 0 + c) (getD (b .given) (place (b .letters) (letter .number)) 0)) _ _ (λ _. omega arith) (λ _. tt))
+    (λ _. by-test P (leb (getD (b .back) (place (b .letters) (letter .number)) 0 + c) (getD (b .given) (place (b .letters) (letter .number)) 0)) _ _ (λ _. omega arith) (λ _. tt))
   where
     P : BossTook → Type 0
     P d = Drops 1 (d .taking)
 receive-lighter b sender letter Ask places f =
     by-test P (eqb places 0) _ _ (λ z. omega (arith, eqb-true places 0 z, f refl))
-      (λ _. by-test P (ltb (place (b .letters) (letter .number)) 64) _ _
-        (λ _. by-test P (ltb (getD (b .given) (place (b .letters) (letter .number)) 0 + grant) limit) _ _ (λ _. omega arith) (λ _. omega arith)) (λ _. omega arith))
+    (λ _. by-test P (ltb (place (b .letters) (letter .number)) 64) _ _
+    (λ _. by-test P (ltb (getD (b .given) (place (b .letters) (letter .number)) 0 + grant) limit) _ _ (λ _. omega arith) (λ _. omega arith)) (λ _. omega arith))
   where
     P : BossTook → Type 0
     P d = Drops 4 (d .taking)
 
 -- the load of a world after a helper came to g, and the messages to ms
 pub load-helper : (w : World) (i : ℕ) (g : Helper) (ms : List Mail) → i < length (w .helpers) →
-  load (record { boss = w .boss; helpers = set (w .helpers) i g; post = ms }) + (delayed (helperAt (w .helpers) i .holdings) + mailed (w .post)) ≡ load w + (delayed (g .holdings) + mailed ms)
+    load (record { boss = w .boss; helpers = set (w .helpers) i g; post = ms }) + (delayed (helperAt (w .helpers) i .holdings) + mailed (w .post)) ≡ load w + (delayed (g .holdings) + mailed ms)
 unfolding load
 load-helper w i g ms l = omega (arith, sumBy-set (λ (h : Helper). delayed (h .holdings)) (w .helpers) i g noHelper l)
 

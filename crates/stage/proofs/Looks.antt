@@ -1,12 +1,11 @@
 -- Searches and counts along a list, one place on; and the bytes of work.
 use Prim.Native.Nat.{ℕ, suc, _+_, _-_, _<_, _≤_, min}
 use mathlib.Core.Path.{_≡_, refl, sym, ap, _∙_}
-use mathlib.Core.Bool.{Bool, true, false, cond}
-use mathlib.Core.List.{List, [], _∷_, _++_, map}
+use mathlib.Core.Bool.{true, false}
+use mathlib.Core.List.{List, [], _∷_, _++_}
 use native.Mathlib.Omega.{arith}
 use lib.Dec.{ltb}
 use lib.ListN.{length, getD, take, drop}
-use Rattle.std.specs.shelf.Lists.{countBy}
 use Rattle.std.proofs.shelf.Lists.{at-drop-more, at-drop-all, take-at, take-all, getD-map, getD-read, length-map}
 use Rattle.std.proofs.shelf.Sums.{countBy-more-yes, countBy-more-no}
 use Rattle.coins.specs.declared.ids.NodeId.{NodeId}
@@ -15,7 +14,6 @@ use Rattle.coins.specs.Helpers.{seekWaiting, newHelper}
 use native.Mathlib.Numerals.{add-one}
 use Rattle.runs.specs.System.{crew, noHelper, head, onLine, noMail, mailAt, helperAt}
 use Rattle.stage.specs.declared.parcel.Parcel.{Parcel}
-use Rattle.stage.specs.Works.{noWork}
 use Rattle.stage.specs.Scenes.{mails, room, seekHelper, seekHolder}
 
 abbrev pub noParcel : Parcel

@@ -1,15 +1,13 @@
 -- What is played when a message comes, and what comes by itself.
 use Prim.Native.Nat.{ℕ, _<_, _≤_}
-use mathlib.Core.Path.{_≡_, refl, sym, ap, subst, _∙_}
+use mathlib.Core.Path.{_≡_}
 use lib.ListN.{length}
 use borrow.Author.Tests.{lt-ltb, le-ltb}
-use Rattle.std.specs.declared.option.Option.{Option}
-use Rattle.std.specs.declared.option.Option.the-variants.{Some, None}
+use Rattle.std.specs.declared.option.Option.the-variants.{Some}
 use Rattle.coins.specs.declared.mail.Mail.{Mail}
 use Rattle.coins.specs.declared.ids.NodeId.{NodeId}
 use Rattle.runs.specs.System.{mailAt, head}
 use Rattle.stage.specs.declared.command.Command.{Command}
-use Rattle.stage.specs.declared.command.Command.the-variants.{Pass}
 use Rattle.stage.specs.Scenes.{Scene, mails, seekHelper}
 use Rattle.stage.specs.Plays.{Out, next, passing, toHelper, toBoss, playPass}
 
@@ -23,9 +21,9 @@ next-boss s c k m e l p q f = rw (← e, le-ltb k (length (s .parcels)) l, lt-lt
 
 -- the first message of a line comes: to a helper, or to the boss
 pub pass-helper : (s : Scene) (from to : NodeId) (k : ℕ) (m : Mail) (o : Out) → k ≡ head (mails (s .parcels)) from to → k < length (s .parcels) → to .number < length (s .helpers) → mailAt (mails (s .parcels)) k ≡ m →
-  toHelper s k to m ≡ o → playPass s from to ≡ o
+    toHelper s k to m ≡ o → playPass s from to ≡ o
 pass-helper s from to k m o e l i q f = rw (← e, lt-ltb k (length (s .parcels)) l, lt-ltb (to .number) (length (s .helpers)) i, q) f
 
 pub pass-boss : (s : Scene) (from to : NodeId) (k : ℕ) (m : Mail) (o : Out) → k ≡ head (mails (s .parcels)) from to → k < length (s .parcels) → length (s .helpers) ≤ to .number → mailAt (mails (s .parcels)) k ≡ m →
-  toBoss s k from to m ≡ o → playPass s from to ≡ o
+    toBoss s k from to m ≡ o → playPass s from to ≡ o
 pass-boss s from to k m o e l i q f = rw (← e, lt-ltb k (length (s .parcels)) l, le-ltb (to .number) (length (s .helpers)) i, q) f

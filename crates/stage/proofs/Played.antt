@@ -1,22 +1,22 @@
 -- What is played is a step of the system, or nothing; and only say answers done.
-use Prim.Native.Nat.{ℕ, zero, suc, _+_, _<_, _≤_}
+use Prim.Native.Nat.{ℕ, suc, _+_, _<_, _≤_}
 use mathlib.Core.Path.{_≡_, refl, sym, ap, subst, _∙_}
 use mathlib.Core.Logic.{_⊎_, inl, inr, ⊎-elim, ∥∥₁-elim, ∥∥₁-map}
-use mathlib.Core.Bool.{Bool, true, false, cond, _&&_, _||_, not, Bool-set}
-use mathlib.Core.List.{List, [], _∷_, _++_, map}
+use mathlib.Core.Bool.{Bool, true, false, cond, _&&_, _||_, Bool-set}
+use mathlib.Core.List.{List, [], _∷_}
 use native.Mathlib.Omega.{arith}
 use lib.Dec.{eqb, ltb, leb}
 use lib.ListN.{length, getD, set, take, drop}
 use Rattle.std.specs.Holes.{removed}
 use Rattle.std.specs.Orderings.{When}
-use Rattle.std.proofs.shelf.Lists.{map-push, map-append, take-map, drop-map, set-getD}
+use Rattle.std.proofs.shelf.Lists.{map-push, map-append, take-map, drop-map}
 use Rattle.std.proofs.shelf.Ways.{eqb-tells}
 use Rattle.std.proofs.shelf.Tests.{eqb-true}
 use borrow.Author.Tests.{ltb-true, ltb-false}
 use Rattle.coins.specs.declared.ids.LetterId.{LetterId}
 use Rattle.coins.specs.declared.ids.NodeId.{NodeId}
 use Rattle.coins.specs.declared.answer.Answer.{Answer}
-use Rattle.coins.specs.declared.answer.Answer.the-variants.{Fine, Done, Refused}
+use Rattle.coins.specs.declared.answer.Answer.the-variants.{Fine, Done}
 use Rattle.coins.specs.declared.answer.Refusal.{Refusal}
 use Rattle.coins.specs.declared.mail.Kind.{Kind}
 use Rattle.coins.specs.declared.mail.Kind.the-variants.{Work as Works, More, Back, NoMore, Ask}
@@ -26,16 +26,15 @@ use Rattle.coins.specs.declared.mail.Post.the-variants.{Nothing, Send}
 use Rattle.coins.specs.declared.mail.Taking.{Taking}
 use Rattle.coins.specs.declared.mail.Taking.the-variants.{Took, Later, Refused as Turned}
 use Rattle.coins.specs.declared.helper.Helper.{Helper}
-use Rattle.coins.specs.declared.holding.Holding.{Holding}
 use Rattle.coins.specs.declared.boss.Boss.{Boss}
 use Rattle.coins.specs.Limits.{grant, limit, bossNumber}
 use Rattle.coins.specs.Letters.{seek, place}
-use Rattle.coins.specs.Helpers.{at, askAt, shareAt, shareStep, restAt, restStep, flushStep, arriveStep}
-use Rattle.coins.specs.Helpers.{Called as HelperCalled, Took-in as HelperTook}
-use Rattle.coins.specs.Bosses.{giveOpen, giveAt, giveNew, giveStep, sayAt, sayStep, backAt, backStep, askAt as bossAskAt, askStep, receiveStep}
+use Rattle.coins.specs.Helpers.{at, shareStep, restStep, arriveStep}
+use Rattle.coins.specs.Helpers.{Called as HelperCalled}
+use Rattle.coins.specs.Bosses.{giveStep, sayStep, receiveStep}
 use Rattle.coins.specs.Bosses.{Called as BossCalled, Took-in as BossTook}
-use Rattle.runs.specs.System.{World, helperAt, noHelper, mailAt, noMail, head, onLine, First, sent, Step, gives, says, shares, rests, flushes, comes, returns, Reach, then, Runs, onward}
-use Rattle.runs.specs.Letter.{View, view, isDone, Quiet}
+use Rattle.runs.specs.System.{World, helperAt, mailAt, head, onLine, First, sent, Step, gives, says, shares, rests, flushes, comes, returns, Reach, then, Runs, onward}
+use Rattle.runs.specs.Letter.{isDone}
 use Rattle.runs.specs.Promise.{Promised, Taken, Welcome, isGive}
 use Rattle.runs.proofs.Tables.{by-test, placed}
 use Rattle.runs.proofs.Books.{closed}
@@ -46,10 +45,10 @@ use Rattle.stage.specs.declared.parcel.Parcel.{Parcel}
 use Rattle.stage.specs.declared.command.Command.{Command}
 use Rattle.stage.specs.declared.command.Command.the-variants.{Give, Share, Rest, Say, Pass, Flush}
 use Rattle.stage.specs.declared.command.Reply.{Reply}
-use Rattle.stage.specs.declared.command.Reply.the-variants.{Answered, NoMemory}
+use Rattle.stage.specs.declared.command.Reply.the-variants.{Answered}
 use Rattle.stage.specs.Works.{noWork}
 use Rattle.stage.specs.Scenes.{Scene, mails, world, parcelOf, sentOn, room}
-use Rattle.stage.specs.Plays.{Out, bossId, refuse, bossDid, helperDid, playGive, playSay, shareOf, playShare, playRest, playFlush, taken, toHelper, toBoss, passAt, playPass, plays, noMemory, lacks, Outcome, Onward, Said}
+use Rattle.stage.specs.Plays.{Out, bossId, refuse, bossDid, helperDid, playGive, playSay, playShare, playRest, playFlush, taken, toHelper, toBoss, playPass, plays, lacks, Outcome, Onward, Said}
 use Rattle.stage.proofs.Looks.{mails-length}
 
 clash : {P : Type 0} → _≡_ {A = ℕ} 0 1 → P
@@ -90,11 +89,11 @@ is-first ms s r l =
 give-fine : (b : Boss) (letter : LetterId) (to : NodeId) (places : ℕ) → giveStep b letter to places .outcome .answer ≡ Done → ⊥
 give-fine b letter to places =
     by-test P (ltb 255 (to .number)) _ _ (λ _ e. clash (cc))
-      (λ _. by-test P (ltb (place (b .letters) (letter .number)) 64) _ _
-        (λ _. by-test P (ltb (getD (b .given) (place (b .letters) (letter .number)) 0 + grant) limit) _ _ (λ _. by-test P (eqb places 0) _ _ (λ _ e. clash (cc)) (λ _ e. clash (cc))) (λ _ e. clash (cc)))
-        (λ _. by-test P (ltb (b .highest) (letter .number)) _ _
-          (λ _. by-test P (ltb (seek (b .letters) 0) 64) _ _ (λ _. by-test P (eqb places 0) _ _ (λ _ e. clash (cc)) (λ _ e. clash (cc))) (λ _ e. clash (cc)))
-          (λ _ e. clash (cc))))
+    (λ _. by-test P (ltb (place (b .letters) (letter .number)) 64) _ _
+    (λ _. by-test P (ltb (getD (b .given) (place (b .letters) (letter .number)) 0 + grant) limit) _ _ (λ _. by-test P (eqb places 0) _ _ (λ _ e. clash (cc)) (λ _ e. clash (cc))) (λ _ e. clash (cc)))
+    (λ _. by-test P (ltb (b .highest) (letter .number)) _ _
+    (λ _. by-test P (ltb (seek (b .letters) 0) 64) _ _ (λ _. by-test P (eqb places 0) _ _ (λ _ e. clash (cc)) (λ _ e. clash (cc))) (λ _ e. clash (cc)))
+    (λ _ e. clash (cc))))
   where
     P : BossCalled → Type 0
     P d = d .outcome .answer ≡ Done → ⊥
@@ -102,13 +101,13 @@ give-fine b letter to places =
 share-fine : (h : Helper) (letter : LetterId) (to : NodeId) (peer boss : ℕ) → shareStep h letter to peer boss .outcome .answer ≡ Done → ⊥
 share-fine h letter to peer boss =
     by-test P (ltb 255 (to .number)) _ _ (λ _ e. clash (cc))
-      (λ _. by-test P (ltb (place (h .letters) (letter .number)) 64) _ _
-        (λ _. let x = at (h .holdings) (place (h .letters) (letter .number)) in
-          by-test P (x .working) _ _
-            (λ _. by-test P (ltb (x .coins) 2) _ _ (λ _. by-test P (x .asked || eqb boss 0) _ _ (λ _ e. clash (cc)) (λ _ e. clash (cc)))
-              (λ _. by-test P (eqb (to .number) (h .me .number)) _ _ (λ _ e. clash (cc)) (λ _. by-test P (eqb peer 0) _ _ (λ _ e. clash (cc)) (λ _ e. clash (cc)))))
-            (λ _ e. clash (cc)))
-        (λ _ e. clash (cc)))
+    (λ _. by-test P (ltb (place (h .letters) (letter .number)) 64) _ _
+    (λ _. let x = at (h .holdings) (place (h .letters) (letter .number)) in
+    by-test P (x .working) _ _
+    (λ _. by-test P (ltb (x .coins) 2) _ _ (λ _. by-test P (x .asked || eqb boss 0) _ _ (λ _ e. clash (cc)) (λ _ e. clash (cc)))
+    (λ _. by-test P (eqb (to .number) (h .me .number)) _ _ (λ _ e. clash (cc)) (λ _. by-test P (eqb peer 0) _ _ (λ _ e. clash (cc)) (λ _ e. clash (cc)))))
+    (λ _ e. clash (cc)))
+    (λ _ e. clash (cc)))
   where
     P : HelperCalled → Type 0
     P d = d .outcome .answer ≡ Done → ⊥
@@ -116,8 +115,8 @@ share-fine h letter to peer boss =
 rest-fine : (h : Helper) (letter : LetterId) (boss : ℕ) → restStep h letter boss .outcome .answer ≡ Done → ⊥
 rest-fine h letter boss =
     by-test P (ltb (place (h .letters) (letter .number)) 64) _ _
-      (λ _. by-test P (at (h .holdings) (place (h .letters) (letter .number)) .working) _ _ (λ _. by-test P (eqb boss 0) _ _ (λ _ e. clash (cc)) (λ _ e. clash (cc))) (λ _ e. clash (cc)))
-      (λ _ e. clash (cc))
+    (λ _. by-test P (at (h .holdings) (place (h .letters) (letter .number)) .working) _ _ (λ _. by-test P (eqb boss 0) _ _ (λ _ e. clash (cc)) (λ _ e. clash (cc))) (λ _ e. clash (cc)))
+    (λ _ e. clash (cc))
   where
     P : HelperCalled → Type 0
     P d = d .outcome .answer ≡ Done → ⊥
@@ -142,45 +141,45 @@ answers : (a : Answer) → (a ≡ Done → ⊥) → (D : Type 0) → Answered a 
 answers a f D e = absurd (f (cc))
 
 by-boss : (s : Scene) (b : Boss) (p : Post) (work : Work) (a : Answer) → (a ≡ Done → ⊥) →
-  Goes true (world s) (record { boss = b; helpers = s .helpers; post = sent p (mails (s .parcels)) }) → Fair s true ⊥ (bossDid s b p work a)
+    Goes true (world s) (record { boss = b; helpers = s .helpers; post = sent p (mails (s .parcels)) }) → Fair s true ⊥ (bossDid s b p work a)
 by-boss s b p work a f t =
     record { goes = inl (subst (λ (ms : List Mail). Goes true (world s) (record { boss = b; helpers = s .helpers; post = ms })) (sym (mails-sent p work (s .parcels))) t); done = answers a f ⊥ }
 
 by-helper : (s : Scene) (i : ℕ) (h : Helper) (p : Post) (work : Work) (a : Answer) → (a ≡ Done → ⊥) →
-  Goes false (world s) (record { boss = s .boss; helpers = set (s .helpers) i h; post = sent p (mails (s .parcels)) }) → Fair s false ⊥ (helperDid s i h p work a)
+    Goes false (world s) (record { boss = s .boss; helpers = set (s .helpers) i h; post = sent p (mails (s .parcels)) }) → Fair s false ⊥ (helperDid s i h p work a)
 by-helper s i h p work a f t =
     record { goes = inl (subst (λ (ms : List Mail). Goes false (world s) (record { boss = s .boss; helpers = set (s .helpers) i h; post = ms })) (sym (mails-sent p work (s .parcels))) t); done = answers a f ⊥ }
 
 fair-give : (s : Scene) (letter : LetterId) (to : NodeId) (work : Work) → Fair s true ⊥ (playGive s letter to work)
 fair-give s letter to work =
     by-test (Fair s true ⊥) (ltb (to .number) (length (s .helpers))) _ _
-      (λ t. by-boss s _ _ work _ (give-fine (s .boss) letter to (room (s .parcels) bossId to)) (record { step = gives (world s) letter to (room (s .parcels) bossId to) (ltb-true _ _ t); ungiven = λ e. clash (cc) }))
-      (λ _. refuses s true _ ⊥)
+    (λ t. by-boss s _ _ work _ (give-fine (s .boss) letter to (room (s .parcels) bossId to)) (record { step = gives (world s) letter to (room (s .parcels) bossId to) (ltb-true _ _ t); ungiven = λ e. clash (cc) }))
+    (λ _. refuses s true _ ⊥)
 
 fair-share : (s : Scene) (by : NodeId) (letter : LetterId) (to : NodeId) (work : Work) → Fair s false ⊥ (playShare s by letter to work)
 fair-share s by letter to work =
     by-test (Fair s false ⊥) (ltb (by .number) (length (s .helpers))) _ _
-      (λ t. by-test (Fair s false ⊥) (ltb (to .number) (length (s .helpers))) _ _
-        (λ u. by-helper s (by .number) _ _ work _ (share-fine (helperAt (s .helpers) (by .number)) letter to (room (s .parcels) by to) (room (s .parcels) by bossId))
-          (plainly (shares (world s) (by .number) letter to (room (s .parcels) by to) (room (s .parcels) by bossId) (ltb-true _ _ t) (ltb-true _ _ u)) (λ _. refl)))
-        (λ _. refuses s false _ ⊥))
-      (λ _. refuses s false _ ⊥)
+    (λ t. by-test (Fair s false ⊥) (ltb (to .number) (length (s .helpers))) _ _
+    (λ u. by-helper s (by .number) _ _ work _ (share-fine (helperAt (s .helpers) (by .number)) letter to (room (s .parcels) by to) (room (s .parcels) by bossId))
+    (plainly (shares (world s) (by .number) letter to (room (s .parcels) by to) (room (s .parcels) by bossId) (ltb-true _ _ t) (ltb-true _ _ u)) (λ _. refl)))
+    (λ _. refuses s false _ ⊥))
+    (λ _. refuses s false _ ⊥)
 
 fair-rest : (s : Scene) (by : NodeId) (letter : LetterId) → Fair s false ⊥ (playRest s by letter)
 fair-rest s by letter =
     by-test (Fair s false ⊥) (ltb (by .number) (length (s .helpers))) _ _
-      (λ t. by-helper s (by .number) _ _ noWork _ (rest-fine (helperAt (s .helpers) (by .number)) letter (room (s .parcels) by bossId)) (plainly (rests (world s) (by .number) letter (room (s .parcels) by bossId) (ltb-true _ _ t)) (λ _. refl)))
-      (λ _. refuses s false _ ⊥)
+    (λ t. by-helper s (by .number) _ _ noWork _ (rest-fine (helperAt (s .helpers) (by .number)) letter (room (s .parcels) by bossId)) (plainly (rests (world s) (by .number) letter (room (s .parcels) by bossId) (ltb-true _ _ t)) (λ _. refl)))
+    (λ _. refuses s false _ ⊥)
 
 fair-flush : (s : Scene) (by : NodeId) → Fair s false ⊥ (playFlush s by)
 fair-flush s by =
     by-test (Fair s false ⊥) (ltb (by .number) (length (s .helpers))) _ _
-      (λ t. by-helper s (by .number) _ _ noWork Fine (λ e. clash (cc)) (plainly (flushes (world s) (by .number) (room (s .parcels) by bossId) (ltb-true _ _ t)) (λ _. refl)))
-      (λ _. refuses s false _ ⊥)
+    (λ t. by-helper s (by .number) _ _ noWork Fine (λ e. clash (cc)) (plainly (flushes (world s) (by .number) (room (s .parcels) by bossId) (ltb-true _ _ t)) (λ _. refl)))
+    (λ _. refuses s false _ ⊥)
 
 -- what comes is taken, or the boss leaves it for later
 came : (s : Scene) (k : ℕ) (p : Post) (b : Boss) (hs : List Helper) → Goes false (world s) (record { boss = b; helpers = hs; post = sent p (removed (mails (s .parcels)) k) }) →
-  Goes false (world s) (world (record { boss = b; helpers = hs; parcels = sentOn p noWork (removed (s .parcels) k) }))
+    Goes false (world s) (world (record { boss = b; helpers = hs; parcels = sentOn p noWork (removed (s .parcels) k) }))
 came s k p b hs t =
     subst (λ (ms : List Mail). Goes false (world s) (record { boss = b; helpers = hs; post = ms })) (sym (mails-sent p noWork (removed (s .parcels) k) ∙ ap (λ (ms : List Mail). sent p ms) (mails-removed (s .parcels) k))) t
 
@@ -196,14 +195,14 @@ unmoved b sender letter (More c) places = tt
 unmoved b sender letter NoMore places = tt
 unmoved b sender letter (Back c) places =
     by-test P (eqb c 0 || leb 64 (place (b .letters) (letter .number))) _ _ (λ _. tt)
-      (λ _. by-test P (leb (getD (b .back) (place (b .letters) (letter .number)) 0 + c) (getD (b .given) (place (b .letters) (letter .number)) 0)) _ _ (λ _. tt) (λ _. tt))
+    (λ _. by-test P (leb (getD (b .back) (place (b .letters) (letter .number)) 0 + c) (getD (b .given) (place (b .letters) (letter .number)) 0)) _ _ (λ _. tt) (λ _. tt))
   where
     P : BossTook → Type 0
     P d = Unmoved b (d .boss) (d .taking)
 unmoved b sender letter Ask places =
     by-test P (eqb places 0) _ _ (λ _. refl)
-      (λ _. by-test P (ltb (place (b .letters) (letter .number)) 64) _ _
-        (λ _. by-test P (ltb (getD (b .given) (place (b .letters) (letter .number)) 0 + grant) limit) _ _ (λ _. tt) (λ _. tt)) (λ _. tt))
+    (λ _. by-test P (ltb (place (b .letters) (letter .number)) 64) _ _
+    (λ _. by-test P (ltb (getD (b .given) (place (b .letters) (letter .number)) 0 + grant) limit) _ _ (λ _. tt) (λ _. tt)) (λ _. tt))
   where
     P : BossTook → Type 0
     P d = Unmoved b (d .boss) (d .taking)
@@ -213,14 +212,14 @@ module _ (s : Scene) (P : Promised (world s)) (from to : NodeId) (k : ℕ) (l : 
   m = mailAt (mails (s .parcels)) k
 
   fair-helper : (places : ℕ) → to .number < length (s .helpers) → (g : Helper) (t : Taking) → arriveStep (helperAt (s .helpers) (to .number)) (m .letter) (m .kind) places ≡ record { helper = g; taking = t } → Taken t →
-    Fair s false ⊥ (taken (record { boss = s .boss; helpers = set (s .helpers) (to .number) g; parcels = s .parcels }) k t)
+      Fair s false ⊥ (taken (record { boss = s .boss; helpers = set (s .helpers) (to .number) g; parcels = s .parcels }) k t)
   fair-helper places lt g (Took p) e y =
       record { goes = inl (came s k p (s .boss) (set (s .helpers) (to .number) g) (plainly (comes (world s) k (to .number) places g p f (ap (λ (x : NodeId). x .number) b) lt e) (λ _. refl))); done = λ q. clash (cc) }
   fair-helper places lt g Later e y = absurd y
   fair-helper places lt g (Turned why) e y = absurd y
 
   fair-boss : (places : ℕ) → to .number ≡ bossNumber → (c : Boss) (t : Taking) → receiveStep (s .boss) (m .sender) (m .letter) (m .kind) places ≡ record { boss = c; taking = t } → Welcome places t → Unmoved (s .boss) c t →
-    Fair s false ⊥ (taken (record { boss = c; helpers = s .helpers; parcels = s .parcels }) k t)
+      Fair s false ⊥ (taken (record { boss = c; helpers = s .helpers; parcels = s .parcels }) k t)
   fair-boss places n c (Took p) e y u =
       record { goes = inl (came s k p c (s .helpers) (plainly (returns (world s) k places c p f (ap (λ (x : NodeId). x .number) b ∙ n) e) (λ _. refl))); done = λ q. clash (cc) }
   fair-boss places n c Later e y u =
@@ -230,38 +229,40 @@ module _ (s : Scene) (P : Promised (world s)) (from to : NodeId) (k : ℕ) (l : 
   -- who is no helper is the boss
   is-boss : length (s .helpers) ≤ to .number → to .number ≡ bossNumber
   is-boss le =
-      elim (eqb-tells (to .number) bossNumber)
-        [ inl t ↦ t .1
-        | inr t ↦ absurd (let x = ap (λ (y : NodeId). y .number) b in omega (arith, P .addressed k l (λ q. t .1 (sym x ∙ q)), le, x)) ]
+      elim (eqb-tells (to .number) bossNumber) [
+        | inl t ↦ t .1
+        | inr t ↦ absurd (let x = ap (λ (y : NodeId). y .number) b in omega (arith, P .addressed k l (λ q. t .1 (sym x ∙ q)), le, x))
+      ]
 
   fair-at : Fair s false ⊥ (cond (ltb (to .number) (length (s .helpers))) (toHelper s k to m) (toBoss s k from to m))
   fair-at =
       by-test (Fair s false ⊥) (ltb (to .number) (length (s .helpers))) _ _
-        (λ t. let lt : to .number < length (s .helpers) = ltb-true _ _ t in
-          fair-helper (room (s .parcels) to bossId) lt _ _ refl (P .helped k (to .number) (room (s .parcels) to bossId) l (ap (λ (x : NodeId). x .number) b) lt))
-        (λ u. let n : to .number ≡ bossNumber = is-boss (ltb-false _ _ u) in
-          fair-boss (room (s .parcels) to from) n _ _ refl (P .received k (room (s .parcels) to from) l (ap (λ (x : NodeId). x .number) b ∙ n)) (unmoved (s .boss) (m .sender) (m .letter) (m .kind) (room (s .parcels) to from)))
+      (λ t. let lt : to .number < length (s .helpers) = ltb-true _ _ t in
+      fair-helper (room (s .parcels) to bossId) lt _ _ refl (P .helped k (to .number) (room (s .parcels) to bossId) l (ap (λ (x : NodeId). x .number) b) lt))
+      (λ u. let n : to .number ≡ bossNumber = is-boss (ltb-false _ _ u) in
+      fair-boss (room (s .parcels) to from) n _ _ refl (P .received k (room (s .parcels) to from) l (ap (λ (x : NodeId). x .number) b ∙ n)) (unmoved (s .boss) (m .sender) (m .letter) (m .kind) (room (s .parcels) to from)))
 
 fair-pass : (s : Scene) → Promised (world s) → (from to : NodeId) → Fair s false ⊥ (playPass s from to)
 fair-pass s P from to =
     by-test (Fair s false ⊥) (ltb (head (mails (s .parcels)) from to) (length (s .parcels))) _ _
-      (λ t. let l : head (mails (s .parcels)) from to < length (mails (s .parcels)) = omega (arith, ltb-true _ _ t, mails-length (s .parcels)) in
-        let x = is-first (mails (s .parcels)) from to l in
-        fair-at s P from to (head (mails (s .parcels)) from to) l (x .0) (x .2))
-      (λ _. refuses s false _ ⊥)
+    (λ t. let l : head (mails (s .parcels)) from to < length (mails (s .parcels)) = omega (arith, ltb-true _ _ t, mails-length (s .parcels)) in
+    let x = is-first (mails (s .parcels)) from to l in
+    fair-at s P from to (head (mails (s .parcels)) from to) l (x .0) (x .2))
+    (λ _. refuses s false _ ⊥)
 
 -- what say leaves when it answers done
 said-done : (w : World) → ∥ Reach w ∥₁ → (letter : LetterId) → sayStep (w .boss) letter .outcome .answer ≡ Done → (1 ≤ letter .number) × (isDone (sayStep (w .boss) letter .boss) (letter .number) ≡ true)
 said-done w r letter =
     by-test P (ltb (place (w .boss .letters) n) 64) _ _
-      (λ t. let l : place (w .boss .letters) n < 64 = ltb-true _ _ t in
-        by-test P (eqb (getD (w .boss .given) (place (w .boss .letters) n) 0) (getD (w .boss .back) (place (w .boss .letters) n) 0)) _ _
-          (λ _ _. (placed (w .boss .letters) n l, ∥∥₁-elim r (Bool-set _ _) (λ q. closed (w .boss) (always q .order .boss) n l .done-is)))
-          (λ _ e. clash (cc)))
-      (λ _ e. clash (cc))
+    (λ t. let l : place (w .boss .letters) n < 64 = ltb-true _ _ t in
+    by-test P (eqb (getD (w .boss .given) (place (w .boss .letters) n) 0) (getD (w .boss .back) (place (w .boss .letters) n) 0)) _ _
+    (λ _ _. (placed (w .boss .letters) n l, ∥∥₁-elim r (Bool-set _ _) (λ q. closed (w .boss) (always q .order .boss) n l .done-is)))
+    (λ _ e. clash (cc)))
+    (λ _ e. clash (cc))
   where
     n : ℕ
     n = letter .number
+
     P : BossCalled → Type 0
     P d = d .outcome .answer ≡ Done → (1 ≤ n) × (isDone (d .boss) n ≡ true)
 
@@ -270,15 +271,16 @@ fair-say s r letter =
     record {
       goes = inl goes;
       done = λ e.
-        let x = said-done (world s) r letter (cc) in
-        (x .1, promised-of (world (playSay s letter .scene)) (∥∥₁-map r (λ q. then q (goes .step))) .sound (letter .number) (x .0) .quiet (x .1))
+          let x = said-done (world s) r letter (cc) in
+          (x .1, promised-of (world (playSay s letter .scene)) (∥∥₁-map r (λ q. then q (goes .step))) .sound (letter .number) (x .0) .quiet (x .1));
     }
   where
     quietly : sayStep (s .boss) letter .outcome .post ≡ Nothing
     quietly =
         by-test (λ (d : BossCalled). d .outcome .post ≡ Nothing) (ltb (place (s .boss .letters) (letter .number)) 64) _ _
-          (λ _. by-test (λ (d : BossCalled). d .outcome .post ≡ Nothing) (eqb (getD (s .boss .given) (place (s .boss .letters) (letter .number)) 0) (getD (s .boss .back) (place (s .boss .letters) (letter .number)) 0)) _ _ (λ _. refl) (λ _. refl))
-          (λ _. refl)
+        (λ _. by-test (λ (d : BossCalled). d .outcome .post ≡ Nothing) (eqb (getD (s .boss .given) (place (s .boss .letters) (letter .number)) 0) (getD (s .boss .back) (place (s .boss .letters) (letter .number)) 0)) _ _ (λ _. refl) (λ _. refl))
+        (λ _. refl)
+
     goes : Goes false (world s) (world (playSay s letter .scene))
     goes = subst (λ (p : Post). Goes false (world s) (record { boss = sayStep (s .boss) letter .boss; helpers = s .helpers; post = sent p (mails (s .parcels)) })) quietly (plainly (says (world s) letter) (λ _. refl))
 
@@ -308,8 +310,8 @@ module _ (s t : Scene) (c : Command) (work : Work) (r : Reply) (h : Outcome (lac
   pub went : Goes (isGiver c) (world s) (world t) ⊎ (world t ≡ world s)
   went =
       ⊎-elim (λ e. inr (ap world e))
-        (λ e. subst (λ (o : Out). Goes (isGiver c) (world s) (world (o .scene)) ⊎ (world (o .scene) ≡ world s)) e (fair s c work q .goes))
-        (by-when (lacks c r) h)
+      (λ e. subst (λ (o : Out). Goes (isGiver c) (world s) (world (o .scene)) ⊎ (world (o .scene) ≡ world s)) e (fair s c work q .goes))
+      (by-when (lacks c r) h)
 
   pub goes-on : Onward (world s) (world t)
   goes-on = ⊎-elim (λ g. inl (g .step)) inr went
@@ -328,7 +330,7 @@ no-lack P Q (Flush by) h = h
 pub done-on : (s t : Scene) (c : Command) (work : Work) (r : Reply) → Outcome (lacks c r) (plays s c work) s t r → ∥ Reach (world s) ∥₁ → r ≡ Answered Done → Said c (world t)
 done-on s t c work r h q d =
     let o : plays s c work ≡ record { scene = t; reply = Answered Done } =
-      no-lack (t ≡ s) (plays s c work ≡ record { scene = t; reply = Answered Done }) c (subst (λ (a : Reply). Outcome (lacks c a) (plays s c work) s t a) d h) in
+    no-lack (t ≡ s) (plays s c work ≡ record { scene = t; reply = Answered Done }) c (subst (λ (a : Reply). Outcome (lacks c a) (plays s c work) s t a) d h) in
     subst (λ (x : Out). Said c (world (x .scene))) o (fair s c work q .done (ap (λ (x : Out). x .reply) o))
 
 pub runs-on : (w v u : World) → Runs w v → Onward v u → Runs w u

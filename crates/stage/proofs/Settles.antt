@@ -2,13 +2,13 @@
 use Prim.Native.Nat.{ℕ, zero, suc, _+_, _-_, _<_, _≤_}
 use mathlib.Core.Path.{_≡_, refl, sym, ap, subst, _∙_}
 use mathlib.Core.Logic.{_⊎_, inl, inr, ⊎-elim, ∥∥₁-elim, ∥∥₁-map}
-use mathlib.Core.Bool.{Bool, true, false, cond, _&&_, _||_, not, Bool-set}
-use mathlib.Core.List.{List, [], _∷_, _++_}
+use mathlib.Core.Bool.{Bool, true, false, cond, _&&_, Bool-set}
+use mathlib.Core.List.{List, [], _∷_}
 use native.Mathlib.Omega.{arith}
 use native.Mathlib.Bridge.{le-prop}
 use native.Mathlib.Nat.{ℕ-set}
-use lib.Dec.{eqb, ltb, leb}
-use lib.ListN.{length, getD, set, take, drop}
+use lib.Dec.{eqb, ltb}
+use lib.ListN.{length, set}
 use Rattle.std.specs.Holes.{removed}
 use Rattle.std.specs.Orderings.{When}
 use Rattle.std.specs.shelf.Lists.{countBy}
@@ -16,13 +16,11 @@ use Rattle.std.specs.declared.option.Option.{Option}
 use Rattle.std.specs.declared.option.Option.the-variants.{Some, None}
 use Rattle.std.proofs.shelf.Lists.{getD-past, nil-from-length}
 use Rattle.std.proofs.shelf.Sums.{sumBy-cons}
-use Rattle.std.proofs.shelf.Tests.{eqb-true, eqb-false, eq-eqb, ne-eqb}
-use Rattle.std.proofs.shelf.Ways.{tells, eqb-tells, leb-tells}
-use borrow.Author.Tests.{ltb-true, ltb-false, lt-ltb, le-ltb}
-use Rattle.coins.specs.declared.ids.LetterId.{LetterId}
+use Rattle.std.proofs.shelf.Tests.{eq-eqb, ne-eqb}
+use Rattle.std.proofs.shelf.Ways.{eqb-tells, leb-tells}
+use borrow.Author.Tests.{ltb-true, ltb-false}
 use Rattle.coins.specs.declared.ids.NodeId.{NodeId}
-use Rattle.coins.specs.declared.mail.Kind.{Kind}
-use Rattle.coins.specs.declared.mail.Kind.the-variants.{Work as Works, More, Back, NoMore, Ask}
+use Rattle.coins.specs.declared.mail.Kind.the-variants.{Ask}
 use Rattle.coins.specs.declared.mail.Mail.{Mail}
 use Rattle.coins.specs.declared.mail.Post.{Post}
 use Rattle.coins.specs.declared.mail.Taking.{Taking}
@@ -33,13 +31,13 @@ use Rattle.coins.specs.declared.boss.Boss.{Boss}
 use Rattle.coins.specs.Limits.{bossNumber}
 use Rattle.coins.specs.Letters.{seek}
 use Rattle.coins.specs.Holdings.{idle, waits}
-use Rattle.coins.specs.Helpers.{at, holdingOf, seekWaiting, flushStep, arriveStep}
+use Rattle.coins.specs.Helpers.{at, seekWaiting, flushStep, arriveStep}
 use Rattle.coins.specs.Helpers.{Took-in as HelperTook}
 use Rattle.coins.specs.Bosses.{receiveStep}
 use Rattle.coins.specs.Bosses.{Took-in as BossTook}
-use Rattle.runs.specs.System.{World, helperAt, noHelper, mailAt, noMail, head, onLine, First, sent, Reach, Runs}
-use Rattle.runs.specs.Letter.{View, view, Quiet, holdingAt, holdingsOf, postOf, weigh, mailed, delayed}
-use Rattle.runs.specs.Promise.{Promised, Taken, Welcome, Ungiven}
+use Rattle.runs.specs.System.{World, helperAt, mailAt, head, onLine, First, Reach}
+use Rattle.runs.specs.Letter.{view, Quiet, holdingAt, holdingsOf, postOf, weigh, mailed}
+use Rattle.runs.specs.Promise.{Promised, Taken, Welcome}
 use Rattle.runs.specs.Promise as promise
 use Rattle.runs.proofs.Tables.{by-test}
 use Rattle.runs.proofs.Rules.{FineKind}
@@ -47,17 +45,15 @@ use Rattle.runs.proofs.Holders.{Tidy, held-at}
 use Rattle.runs.proofs.Views.{held-get, held-length, post-none}
 use Rattle.runs.proofs.Always.{Whole, always, fine-at}
 use Rattle.runs.proofs.Theorems.{promised, quiet-of, quiet-goes-on, quiet-is-said}
-use Rattle.stage.specs.declared.work.Work.{Work}
 use Rattle.stage.specs.declared.parcel.Parcel.{Parcel}
 use Rattle.stage.specs.declared.command.Command.{Command}
 use Rattle.stage.specs.declared.command.Command.the-variants.{Give, Share, Rest, Say, Pass, Flush}
 use Rattle.stage.specs.declared.command.Reply.{Reply}
-use Rattle.stage.specs.declared.command.Reply.the-variants.{Answered, NoMemory}
 use Rattle.stage.specs.Works.{noWork}
 use Rattle.stage.specs.Scenes.{Scene, mails, world, sentOn, room, seekHelper, seekHolder, load}
-use Rattle.stage.specs.Plays.{Out, bossId, taken, toHelper, toBoss, playPass, playFlush, plays, noMemory, lacks, Outcome, passing, nextOf, next, Settled, Calmed}
-use Rattle.stage.proofs.Looks.{mails-length, noParcel}
-use Rattle.stage.proofs.Played.{mails-sent, mails-removed, is-first, Goes, isGiver, went, reach-on}
+use Rattle.stage.specs.Plays.{Out, bossId, taken, toHelper, toBoss, playPass, playFlush, plays, noMemory, lacks, Outcome, passing, next, Settled, Calmed}
+use Rattle.stage.proofs.Looks.{mails-length}
+use Rattle.stage.proofs.Played.{mails-sent, mails-removed, is-first, isGiver, went}
 use Rattle.stage.proofs.Loads.{weighs, Lighter, Drops, mailed-sent, mailed-removed, arrive-lighter, flush-lighter, receive-lighter, load-helper, load-boss}
 
 clash : {P : Type 0} → _≡_ {A = ℕ} 0 1 → P
@@ -143,10 +139,13 @@ module _ (s : Scene) (W : Whole (world s)) (P : Promised (world s)) (from to : N
     where
       d : HelperTook
       d = arriveStep (helperAt (s .helpers) (to .number)) (m .letter) (m .kind) (room (s .parcels) to bossId)
+
       T : Tidy (to .number) (helperAt (s .helpers) (to .number))
       T = W .order .helpers (to .number) lt
+
       lighter : Lighter (helperAt (s .helpers) (to .number)) (weigh (m .kind)) (d .helper) (d .taking)
       lighter = arrive-lighter (to .number) (helperAt (s .helpers) (to .number)) T (m .letter) (m .kind) (room (s .parcels) to bossId)
+
       go : (g : Helper) (t : Taking) → Taken t → Lighter (helperAt (s .helpers) (to .number)) (weigh (m .kind)) g t → load (world (taken (record { boss = s .boss; helpers = set (s .helpers) (to .number) g; parcels = s .parcels }) k t .scene)) < load (world s)
       go g (Took p) y h =
           omega (arith, load-helper (world s) (to .number) g (mails (sentOn p noWork (removed (s .parcels) k))) lt, post-lighter p, h)
@@ -159,6 +158,7 @@ module _ (s : Scene) (W : Whole (world s)) (P : Promised (world s)) (from to : N
     where
       d : BossTook
       d = receiveStep (s .boss) (m .sender) (m .letter) (m .kind) (room (s .parcels) to from)
+
       go : (c : Boss) (t : Taking) → Welcome (room (s .parcels) to from) t → Drops (weigh (m .kind)) t → load (world (taken (record { boss = c; helpers = s .helpers; parcels = s .parcels }) k t .scene)) < load (world s)
       go c (Took p) y h = omega (arith, load-boss (world s) c (mails (sentOn p noWork (removed (s .parcels) k))), post-lighter p, h)
       go c Later y h = absurd h
@@ -168,7 +168,7 @@ module _ (s : Scene) (W : Whole (world s)) (P : Promised (world s)) (from to : N
   asker : ((j : ℕ) → j < length (s .parcels) → length (s .helpers) ≤ mailAt (mails (s .parcels)) j .receiver .number) → from ≡ m .sender → m .kind ≡ Ask → 1 ≤ room (s .parcels) to from
   asker none f q =
       free-line (s .parcels) to from (length (s .helpers))
-        (omega (arith, ap (λ (x : NodeId). x .number) f, subst (FineKind (length (holdingsOf (m .letter .number) (s .helpers))) m) q (fine-at (world s) W k l) .1, held-length (m .letter .number) (s .helpers))) none
+      (omega (arith, ap (λ (x : NodeId). x .number) f, subst (FineKind (length (holdingsOf (m .letter .number) (s .helpers))) m) q (fine-at (world s) W k l) .1, held-length (m .letter .number) (s .helpers))) none
 
 -- what comes to pass by itself
 data Next (s : Scene) (c : Command) : Type 0 where
@@ -179,73 +179,93 @@ data Next (s : Scene) (c : Command) : Type 0 where
 next-is : (s : Scene) (c : Command) → next s ≡ Some c → Next s c
 next-is s c =
     by-test P (ltb k (length (s .parcels))) _ _
-      (λ t e. to-helper k (ltb-true _ _ t) (helper-at (s .parcels) (length (s .helpers)) (ltb-true _ _ t)) (cc))
-      (λ f. by-test P (ltb 0 (length (s .parcels))) _ _
-        (λ t e. to-boss (ltb-true _ _ t) (λ j lj. no-helper (s .parcels) (length (s .helpers)) j (ltb-false _ _ f) lj) (cc))
-        (λ g. by-test P (ltb i (length (s .helpers))) _ _
-          (λ t e. to-flush i (omega (arith, ltb-false _ _ g)) (ltb-true _ _ t) (holder-at (s .helpers) (ltb-true _ _ t)) (cc))
-          (λ _ e. clash (cc))))
+    (λ t e. to-helper k (ltb-true _ _ t) (helper-at (s .parcels) (length (s .helpers)) (ltb-true _ _ t)) (cc))
+    (λ f. by-test P (ltb 0 (length (s .parcels))) _ _
+    (λ t e. to-boss (ltb-true _ _ t) (λ j lj. no-helper (s .parcels) (length (s .helpers)) j (ltb-false _ _ f) lj) (cc))
+    (λ g. by-test P (ltb i (length (s .helpers))) _ _
+    (λ t e. to-flush i (omega (arith, ltb-false _ _ g)) (ltb-true _ _ t) (holder-at (s .helpers) (ltb-true _ _ t)) (cc))
+    (λ _ e. clash (cc))))
   where
     k : ℕ
     k = seekHelper (s .parcels) (length (s .helpers))
+
     i : ℕ
     i = seekHolder (s .helpers)
+
     P : Option Command → Type 0
     P o = o ≡ Some c → Next s c
 
 -- the first message of a line that has one comes
 pass-falls : (s : Scene) → Whole (world s) → Promised (world s) → (k : ℕ) → k < length (s .parcels) →
-  (mailAt (mails (s .parcels)) k .receiver .number < length (s .helpers)) ⊎ ((j : ℕ) → j < length (s .parcels) → length (s .helpers) ≤ mailAt (mails (s .parcels)) j .receiver .number) →
-  load (world (playPass s (mailAt (mails (s .parcels)) k .sender) (mailAt (mails (s .parcels)) k .receiver) .scene)) < load (world s)
+    (mailAt (mails (s .parcels)) k .receiver .number < length (s .helpers)) ⊎ ((j : ℕ) → j < length (s .parcels) → length (s .helpers) ≤ mailAt (mails (s .parcels)) j .receiver .number) →
+    load (world (playPass s (mailAt (mails (s .parcels)) k .sender) (mailAt (mails (s .parcels)) k .receiver) .scene)) < load (world s)
 pass-falls s W P k l way =
     by-test Q (ltb h (length (s .parcels))) _ _
-      (λ _. by-test Q (ltb (to .number) (length (s .helpers))) _ _
-        (λ t. helper-falls s W P from to h inside (first .2) (ltb-true _ _ t))
-        (λ f. elim way
-          [ inl y ↦ absurd (omega (arith, ltb-false _ _ f, y))
-          | inr none ↦ boss-falls s W P from to h inside (first .2) (is-boss none) (asker s W P from to h inside (first .2) none (sym (first .1))) ]))
-      (λ f. absurd (omega (arith, ltb-false _ _ f, found)))
+    (λ _. by-test Q (ltb (to .number) (length (s .helpers))) _ _
+    (λ t. helper-falls s W P from to h inside (first .2) (ltb-true _ _ t))
+    (λ f. elim way [
+      | inl y ↦ absurd (omega (arith, ltb-false _ _ f, y))
+      | inr none ↦ boss-falls s W P from to h inside (first .2) (is-boss none) (asker s W P from to h inside (first .2) none (sym (first .1)))
+    ]))
+    (λ f. absurd (omega (arith, ltb-false _ _ f, found)))
   where
     ms : List Mail
     ms = mails (s .parcels)
+
     from : NodeId
     from = mailAt (mails (s .parcels)) k .sender
+
     to : NodeId
     to = mailAt (mails (s .parcels)) k .receiver
+
     h : ℕ
     h = head (mails (s .parcels)) from to
+
     Q : Out → Type 0
     Q o = load (world (o .scene)) < load (world s)
+
     found : h < length (s .parcels)
     found = omega (arith, head-found ms from to k (omega (arith, mails-length (s .parcels))) (own-line (mailAt ms k)))
+
     inside : h < length (mails (s .parcels))
     inside = omega (arith, found, mails-length (s .parcels))
+
     first : First ms h × (mailAt ms h .sender ≡ from) × (mailAt ms h .receiver ≡ to)
     first = is-first ms from to inside
+
     is-boss : ((j : ℕ) → j < length (s .parcels) → length (s .helpers) ≤ mailAt (mails (s .parcels)) j .receiver .number) → to .number ≡ bossNumber
     is-boss none =
-        elim (eqb-tells (to .number) bossNumber)
-          [ inl t ↦ t .1
-          | inr t ↦ absurd (omega (arith, P .addressed k (omega (arith, mails-length (s .parcels))) (t .1), none k l)) ]
+        elim (eqb-tells (to .number) bossNumber) [
+          | inl t ↦ t .1
+          | inr t ↦ absurd (omega (arith, P .addressed k (omega (arith, mails-length (s .parcels))) (t .1), none k l))
+        ]
 
 flush-falls : (s : Scene) → Whole (world s) → (i : ℕ) → length (s .parcels) ≡ 0 → i < length (s .helpers) → seekWaiting (helperAt (s .helpers) i .holdings) < 64 →
-  load (world (playFlush s (helperAt (s .helpers) i .me) .scene)) < load (world s)
+    load (world (playFlush s (helperAt (s .helpers) i .me) .scene)) < load (world s)
 flush-falls s W i z l q =
     subst (λ (by : NodeId). load (world (playFlush s by .scene)) < load (world s)) (named (helperAt (s .helpers) i .me) (T .named))
-      (by-test (λ (o : Out). load (world (o .scene)) < load (world s)) (ltb i (length (s .helpers))) _ _
-        (λ _. omega (arith, load-helper (world s) i (flushStep h places .helper) (mails (sentOn (flushStep h places .post) noWork (s .parcels))) l,
-            ap mailed (mails-sent (flushStep h places .post) noWork (s .parcels)), mailed-sent (flushStep h places .post) (mails (s .parcels)),
-            flush-lighter i h T places free q))
-        (λ f. absurd (omega (arith, ltb-false _ _ f))))
+    (by-test (λ (o : Out). load (world (o .scene)) < load (world s)) (ltb i (length (s .helpers))) _ _
+    (λ _. omega (
+      arith,
+      load-helper (world s) i (flushStep h places .helper) (mails (sentOn (flushStep h places .post) noWork (s .parcels))) l,
+      ap mailed (mails-sent (flushStep h places .post) noWork (s .parcels)),
+      mailed-sent (flushStep h places .post) (mails (s .parcels)),
+      flush-lighter i h T places free q,
+    ))
+    (λ f. absurd (omega (arith, ltb-false _ _ f))))
   where
     h : Helper
     h = helperAt (s .helpers) i
+
     T : Tidy i (helperAt (s .helpers) i)
     T = W .order .helpers i l
+
     places : ℕ
     places = room (s .parcels) (record { number = i }) bossId
+
     free : 1 ≤ places
     free = free-line (s .parcels) (record { number = i }) bossId (suc bossNumber) (omega arith) (λ j lj. absurd (omega arith))
+
     named : (x : NodeId) → x .number ≡ i → record { number = i } ≡ x
     named x e = let z : _≡_ {A = NodeId} (record { number = i }) (record { number = x .number }) = cc in z
 
@@ -266,8 +286,8 @@ answered-lacks (Flush by) r e = e
 pub falls : (s t : Scene) (c : Command) (r : Reply) → Outcome (lacks c r) (plays s c noWork) s t r → noMemory r ≡ false → ∥ Reach (world s) ∥₁ → next s ≡ Some c → load (world t) < load (world s)
 falls s t c r h a q n =
     ∥∥₁-elim q le-prop (λ run.
-      subst (λ (o : Out). load (world (o .scene)) < load (world s)) (subst (λ (b : Bool). When b (t ≡ s) (plays s c noWork ≡ record { scene = t; reply = r })) (answered-lacks c r a) h)
-        (falls-by s c (always run) (promised (world s) run) (next-is s c n)))
+    subst (λ (o : Out). load (world (o .scene)) < load (world s)) (subst (λ (b : Bool). When b (t ≡ s) (plays s c noWork ≡ record { scene = t; reply = r })) (answered-lacks c r a) h)
+    (falls-by s c (always run) (promised (world s) run) (next-is s c n)))
 
 next-no-give : (s : Scene) (c : Command) → Next s c → isGiver c ≡ false
 next-no-give s c (to-helper k l y e) = ap isGiver e
@@ -276,12 +296,12 @@ next-no-give s c (to-flush i z l q e) = ap isGiver e
 
 -- Each turn leaves quiet what is quiet.
 pub calm-on : (w : World) (s t : Scene) (c : Command) (r : Reply) → Outcome (lacks c r) (plays s c noWork) s t r → ∥ Reach (world s) ∥₁ → next s ≡ Some c →
-  ((letter : ℕ) → 1 ≤ letter → Quiet (view letter w) → Quiet (view letter (world s))) → (letter : ℕ) → 1 ≤ letter → Quiet (view letter w) → Quiet (view letter (world t))
+    ((letter : ℕ) → 1 ≤ letter → Quiet (view letter w) → Quiet (view letter (world s))) → (letter : ℕ) → 1 ≤ letter → Quiet (view letter w) → Quiet (view letter (world t))
 calm-on w s t c r h q n before letter pos quiet =
     ⊎-elim
-      (λ g. quiet-of (view letter (world t)) (∥∥₁-map q (λ run. quiet-goes-on (world s) (world t) _ letter pos run now (promise.onward promise.still (g .step) (g .ungiven (next-no-give s c (next-is s c n)) letter)) .0)))
-      (λ e. subst (λ (v : World). Quiet (view letter v)) (sym e) now)
-      (went s t c noWork r h q)
+    (λ g. quiet-of (view letter (world t)) (∥∥₁-map q (λ run. quiet-goes-on (world s) (world t) _ letter pos run now (promise.onward promise.still (g .step) (g .ungiven (next-no-give s c (next-is s c n)) letter)) .0)))
+    (λ e. subst (λ (v : World). Quiet (view letter v)) (sym e) now)
+    (went s t c noWork r h q)
   where
     now : Quiet (view letter (world s))
     now = before letter pos quiet
@@ -291,26 +311,30 @@ pub settled : (s : Scene) → ∥ Reach (world s) ∥₁ → next s ≡ None →
 unfolding mails
 settled s q =
     by-test P (ltb (seekHelper (s .parcels) (length (s .helpers))) (length (s .parcels))) _ _ (λ _ e. clash (cc))
-      (λ _. by-test P (ltb 0 (length (s .parcels))) _ _ (λ _ e. clash (cc))
-        (λ f. by-test P (ltb (seekHolder (s .helpers)) (length (s .helpers))) _ _ (λ _ e. clash (cc))
-          (λ g _. record { empty = ap mails (nil-from-length (s .parcels) (omega (arith, ltb-false _ _ f))); ready = λ letter i pos. ready (ltb-false _ _ g) letter i pos })))
+    (λ _. by-test P (ltb 0 (length (s .parcels))) _ _ (λ _ e. clash (cc))
+    (λ f. by-test P (ltb (seekHolder (s .helpers)) (length (s .helpers))) _ _ (λ _ e. clash (cc))
+    (λ g _. record { empty = ap mails (nil-from-length (s .parcels) (omega (arith, ltb-false _ _ f))); ready = λ letter i pos. ready (ltb-false _ _ g) letter i pos })))
   where
     P : Option Command → Type 0
     P o = o ≡ None → Settled (world s)
+
     within : (x : ℕ) → length (s .helpers) ≤ seekHolder (s .helpers) → (letter : ℕ) → 1 ≤ letter → x < length (s .helpers) → (run : Reach (world s)) → waits (holdingAt (holdingsOf letter (s .helpers)) x) ≡ false
     within x g letter pos l run =
         let T : Tidy x (helperAt (s .helpers) x) = always run .order .helpers x l in
         let none = no-holder (s .helpers) x g l in
         let h = helperAt (s .helpers) x in
         ap waits (held-get letter (s .helpers) x l ∙ held-at x h letter T pos) ∙
-          elim (leb-tells (length (h .holdings)) (seek (h .letters) letter))
-            [ inl y ↦ ap waits (getD-past (h .holdings) (seek (h .letters) letter) idle (y .1))
-            | inr y ↦ not-waiting (h .holdings) (seek (h .letters) letter) (omega (arith, y .1, none, T .holdings)) ]
+        elim (leb-tells (length (h .holdings)) (seek (h .letters) letter)) [
+          | inl y ↦ ap waits (getD-past (h .holdings) (seek (h .letters) letter) idle (y .1))
+          | inr y ↦ not-waiting (h .holdings) (seek (h .letters) letter) (omega (arith, y .1, none, T .holdings))
+        ]
+
     ready : length (s .helpers) ≤ seekHolder (s .helpers) → (letter i : ℕ) → 1 ≤ letter → waits (holdingAt (holdingsOf letter (s .helpers)) i) ≡ false
     ready g letter i pos =
-        elim (leb-tells (length (s .helpers)) i)
-          [ inl y ↦ ap waits (getD-past (holdingsOf letter (s .helpers)) i idle (omega (arith, y .1, held-length letter (s .helpers))))
-          | inr y ↦ ∥∥₁-elim q (Bool-set _ _) (within i g letter pos (y .1)) ]
+        elim (leb-tells (length (s .helpers)) i) [
+          | inl y ↦ ap waits (getD-past (holdingsOf letter (s .helpers)) i idle (omega (arith, y .1, held-length letter (s .helpers))))
+          | inr y ↦ ∥∥₁-elim q (Bool-set _ _) (within i g letter pos (y .1))
+        ]
 
 -- So all coins of what is quiet are back.
 pub calmed : (w v : World) → ∥ Reach v ∥₁ → Settled v → ((letter : ℕ) → 1 ≤ letter → Quiet (view letter w) → Quiet (view letter v)) → Calmed w v
@@ -318,5 +342,5 @@ calmed w v q S c =
     record {
       quiet = c;
       back = λ letter pos quiet.
-        ∥∥₁-elim q (ℕ-set _ _) (λ run. quiet-is-said v (record { number = letter }) pos run (c letter pos quiet) (ap (postOf letter) (S .empty) ∙ post-none letter) (λ i. S .ready letter i pos) .0)
+          ∥∥₁-elim q (ℕ-set _ _) (λ run. quiet-is-said v (record { number = letter }) pos run (c letter pos quiet) (ap (postOf letter) (S .empty) ∙ post-none letter) (λ i. S .ready letter i pos) .0);
     }

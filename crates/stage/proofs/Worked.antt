@@ -1,5 +1,5 @@
 -- The worked cases, computed.
-use mathlib.Core.Path.{_≡_, refl}
+use mathlib.Core.Path.{refl}
 use Rattle.coins.specs.Letters.{seek}
 use Rattle.runs.specs.System.{crew, head}
 use Rattle.runs.specs.Letter.{holdingsOf, postOf}

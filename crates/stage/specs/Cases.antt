@@ -20,7 +20,7 @@ use Rattle.stage.specs.declared.command.Reply.{Reply}
 use Rattle.stage.specs.declared.command.Reply.the-variants.{Answered}
 use Rattle.stage.specs.Works.{noWork}
 use Rattle.stage.specs.Scenes.{Scene, world}
-use Rattle.stage.specs.Plays.{Out, bossId, plays}
+use Rattle.stage.specs.Plays.{Out, plays}
 
 -- what is seen: the last reply; the boss's counts; of each helper its coins, and whether it is at work; and the coins
 -- of each message under way
@@ -51,14 +51,14 @@ playAll o (c ∷ cs) = playAll (plays (o .scene) c noWork) cs
 
 abbrev pub look : Out → Seen
 look o =
-  record {
-    reply = o .reply;
-    given = view 1 (world (o .scene)) .given;
-    back = view 1 (world (o .scene)) .back;
-    coins = map (λ (h : Holding). h .coins) (view 1 (world (o .scene)) .holdings);
-    working = map (λ (h : Holding). h .working) (view 1 (world (o .scene)) .holdings);
-    underWay = map (λ (m : Mail). coinsIn (m .kind)) (view 1 (world (o .scene)) .post)
-  }
+    record {
+      reply = o .reply;
+      given = view 1 (world (o .scene)) .given;
+      back = view 1 (world (o .scene)) .back;
+      coins = map (λ (h : Holding). h .coins) (view 1 (world (o .scene)) .holdings);
+      working = map (λ (h : Holding). h .working) (view 1 (world (o .scene)) .holdings);
+      underWay = map (λ (m : Mail). coinsIn (m .kind)) (view 1 (world (o .scene)) .post);
+    }
 
 -- after each part it is as the part says
 abbrev pub Goes : Out → List Part → Type 0
@@ -99,15 +99,16 @@ abbrev pub sharing : Case
 sharing = record {
   helpers = 2;
   parts =
-    record { commands = give 0 ∷ pass boss 0 ∷ []; seen = record { reply = Answered Fine; given = 1048576; back = 0; coins = 1048576 ∷ 0 ∷ []; working = true ∷ false ∷ []; underWay = [] } }
-    ∷ record { commands = share 0 1 ∷ pass 0 1 ∷ []; seen = record { reply = Answered Fine; given = 1048576; back = 0; coins = 524288 ∷ 524288 ∷ []; working = true ∷ true ∷ []; underWay = [] } }
-    ∷ record { commands = rest 0 ∷ pass 0 boss ∷ []; seen = record { reply = Answered Fine; given = 1048576; back = 524288; coins = 0 ∷ 524288 ∷ []; working = false ∷ true ∷ []; underWay = [] } }
-    ∷ record { commands = Say letter ∷ []; seen = record { reply = Answered (Refused CoinsOut); given = 1048576; back = 524288; coins = 0 ∷ 524288 ∷ []; working = false ∷ true ∷ []; underWay = [] } }
-    ∷ record { commands = share 1 0 ∷ rest 1 ∷ pass 1 boss ∷ []; seen = record { reply = Answered Fine; given = 1048576; back = 786432; coins = 0 ∷ 0 ∷ []; working = false ∷ false ∷ []; underWay = 262144 ∷ [] } }
-    ∷ record { commands = Say letter ∷ []; seen = record { reply = Answered (Refused CoinsOut); given = 1048576; back = 786432; coins = 0 ∷ 0 ∷ []; working = false ∷ false ∷ []; underWay = 262144 ∷ [] } }
-    ∷ record { commands = pass 1 0 ∷ rest 0 ∷ pass 0 boss ∷ []; seen = record { reply = Answered Fine; given = 1048576; back = 1048576; coins = 0 ∷ 0 ∷ []; working = false ∷ false ∷ []; underWay = [] } }
-    ∷ record { commands = Say letter ∷ []; seen = record { reply = Answered Done; given = 0; back = 0; coins = 0 ∷ 0 ∷ []; working = false ∷ false ∷ []; underWay = [] } }
-    ∷ [] }
+      record { commands = give 0 ∷ pass boss 0 ∷ []; seen = record { reply = Answered Fine; given = 1048576; back = 0; coins = 1048576 ∷ 0 ∷ []; working = true ∷ false ∷ []; underWay = [] } }
+      ∷ record { commands = share 0 1 ∷ pass 0 1 ∷ []; seen = record { reply = Answered Fine; given = 1048576; back = 0; coins = 524288 ∷ 524288 ∷ []; working = true ∷ true ∷ []; underWay = [] } }
+      ∷ record { commands = rest 0 ∷ pass 0 boss ∷ []; seen = record { reply = Answered Fine; given = 1048576; back = 524288; coins = 0 ∷ 524288 ∷ []; working = false ∷ true ∷ []; underWay = [] } }
+      ∷ record { commands = Say letter ∷ []; seen = record { reply = Answered (Refused CoinsOut); given = 1048576; back = 524288; coins = 0 ∷ 524288 ∷ []; working = false ∷ true ∷ []; underWay = [] } }
+      ∷ record { commands = share 1 0 ∷ rest 1 ∷ pass 1 boss ∷ []; seen = record { reply = Answered Fine; given = 1048576; back = 786432; coins = 0 ∷ 0 ∷ []; working = false ∷ false ∷ []; underWay = 262144 ∷ [] } }
+      ∷ record { commands = Say letter ∷ []; seen = record { reply = Answered (Refused CoinsOut); given = 1048576; back = 786432; coins = 0 ∷ 0 ∷ []; working = false ∷ false ∷ []; underWay = 262144 ∷ [] } }
+      ∷ record { commands = pass 1 0 ∷ rest 0 ∷ pass 0 boss ∷ []; seen = record { reply = Answered Fine; given = 1048576; back = 1048576; coins = 0 ∷ 0 ∷ []; working = false ∷ false ∷ []; underWay = [] } }
+      ∷ record { commands = Say letter ∷ []; seen = record { reply = Answered Done; given = 0; back = 0; coins = 0 ∷ 0 ∷ []; working = false ∷ false ∷ []; underWay = [] } }
+      ∷ [];
+}
 
 -- A helper shares until it has one coin: each share gives half away.
 abbrev halves : List ℕ
@@ -125,18 +126,20 @@ abbrev pub asking : Case
 asking = record {
   helpers = 2;
   parts = spent ∷ asked
-    ∷ record { commands = pass 0 boss ∷ pass boss 0 ∷ []; seen = record { reply = Answered Fine; given = 2097152; back = 0; coins = 1048577 ∷ 0 ∷ []; working = true ∷ false ∷ []; underWay = halves } }
-    ∷ record { commands = share 0 1 ∷ []; seen = record { reply = Answered Fine; given = 2097152; back = 0; coins = 524289 ∷ 0 ∷ []; working = true ∷ false ∷ []; underWay = halves ++ 524288 ∷ [] } }
-    ∷ [] }
+      ∷ record { commands = pass 0 boss ∷ pass boss 0 ∷ []; seen = record { reply = Answered Fine; given = 2097152; back = 0; coins = 1048577 ∷ 0 ∷ []; working = true ∷ false ∷ []; underWay = halves } }
+      ∷ record { commands = share 0 1 ∷ []; seen = record { reply = Answered Fine; given = 2097152; back = 0; coins = 524289 ∷ 0 ∷ []; working = true ∷ false ∷ []; underWay = halves ++ 524288 ∷ [] } }
+      ∷ [];
+}
 
 -- It rests before they come: its coin goes back, and then they go back by themselves.
 abbrev pub resting : Case
 resting = record {
   helpers = 2;
   parts = spent ∷ asked
-    ∷ record { commands = rest 0 ∷ pass 0 boss ∷ pass 0 boss ∷ []; seen = record { reply = Answered Fine; given = 2097152; back = 1; coins = 0 ∷ 0 ∷ []; working = false ∷ false ∷ []; underWay = halves ++ 1048576 ∷ [] } }
-    ∷ record { commands = pass boss 0 ∷ pass 0 boss ∷ []; seen = record { reply = Answered Fine; given = 2097152; back = 1048577; coins = 0 ∷ 0 ∷ []; working = false ∷ false ∷ []; underWay = halves } }
-    ∷ [] }
+      ∷ record { commands = rest 0 ∷ pass 0 boss ∷ pass 0 boss ∷ []; seen = record { reply = Answered Fine; given = 2097152; back = 1; coins = 0 ∷ 0 ∷ []; working = false ∷ false ∷ []; underWay = halves ++ 1048576 ∷ [] } }
+      ∷ record { commands = pass boss 0 ∷ pass 0 boss ∷ []; seen = record { reply = Answered Fine; given = 2097152; back = 1048577; coins = 0 ∷ 0 ∷ []; working = false ∷ false ∷ []; underWay = halves } }
+      ∷ [];
+}
 
 abbrev pub cases : List Case
 cases = sharing ∷ asking ∷ resting ∷ []

@@ -1,11 +1,11 @@
 -- What each command does to a scene, and what is replied.
-use Prim.Native.Nat.{ℕ, _+_, _<_, _≤_}
+use Prim.Native.Nat.{ℕ, _≤_}
 use mathlib.Core.Path.{_≡_}
 use mathlib.Core.Logic.{_⊎_}
 use mathlib.Core.Bool.{Bool, true, false, cond}
-use mathlib.Core.List.{List, [], _∷_, _++_}
+use mathlib.Core.List.{[]}
 use lib.Dec.{ltb}
-use lib.ListN.{length, getD, set}
+use lib.ListN.{length, set}
 use Rattle.std.specs.Holes.{removed}
 use Rattle.std.specs.Orderings.{When}
 use Rattle.std.specs.declared.option.Option.{Option}
@@ -13,7 +13,7 @@ use Rattle.std.specs.declared.option.Option.the-variants.{Some, None}
 use Rattle.coins.specs.declared.ids.LetterId.{LetterId}
 use Rattle.coins.specs.declared.ids.NodeId.{NodeId}
 use Rattle.coins.specs.declared.answer.Answer.{Answer}
-use Rattle.coins.specs.declared.answer.Answer.the-variants.{Fine, Done, Refused}
+use Rattle.coins.specs.declared.answer.Answer.the-variants.{Fine, Refused}
 use Rattle.coins.specs.declared.answer.Refusal.{Refusal}
 use Rattle.coins.specs.declared.answer.Refusal.the-variants.{Malformed, NoPlace}
 use Rattle.coins.specs.declared.mail.Mail.{Mail}
@@ -26,17 +26,15 @@ use Rattle.coins.specs.Limits.{bossNumber}
 use Rattle.coins.specs.Holdings.{waits}
 use Rattle.coins.specs.Helpers.{shareStep, restStep, flushStep, arriveStep}
 use Rattle.coins.specs.Bosses.{giveStep, sayStep, receiveStep}
-use Rattle.runs.specs.System.{World, helperAt, mailAt, head, Step, Runs}
-use Rattle.runs.specs.Letter.{View, view, isDone, Quiet, holdingAt}
-use Rattle.runs.specs.Promise.{Promised}
+use Rattle.runs.specs.System.{World, helperAt, mailAt, head, Step}
+use Rattle.runs.specs.Letter.{view, isDone, Quiet, holdingAt}
 use Rattle.stage.specs.declared.work.Work.{Work}
-use Rattle.stage.specs.declared.parcel.Parcel.{Parcel}
 use Rattle.stage.specs.declared.command.Command.{Command}
 use Rattle.stage.specs.declared.command.Command.the-variants.{Give, Share, Rest, Say, Pass, Flush}
 use Rattle.stage.specs.declared.command.Reply.{Reply}
 use Rattle.stage.specs.declared.command.Reply.the-variants.{Answered, NoMemory}
 use Rattle.stage.specs.Works.{noWork}
-use Rattle.stage.specs.Scenes.{Scene, mails, world, sentOn, room, seekHelper, seekHolder}
+use Rattle.stage.specs.Scenes.{Scene, mails, sentOn, room, seekHelper, seekHolder}
 
 pub record Out : Type 0 where
   pub scene : Scene
@@ -56,7 +54,7 @@ helperDid s i h p work a = record { scene = record { boss = s .boss; helpers = s
 
 abbrev pub playGive : Scene → LetterId → NodeId → Work → Out
 playGive s letter to work =
-  cond (ltb (to .number) (length (s .helpers)))
+    cond (ltb (to .number) (length (s .helpers)))
     (bossDid s (giveStep (s .boss) letter to (room (s .parcels) bossId to) .boss) (giveStep (s .boss) letter to (room (s .parcels) bossId to) .outcome .post) work (giveStep (s .boss) letter to (room (s .parcels) bossId to) .outcome .answer))
     (refuse s Malformed)
 
@@ -66,29 +64,29 @@ playSay s letter = record { scene = record { boss = sayStep (s .boss) letter .bo
 -- what a helper does when it is called
 abbrev pub shareOf : Scene → NodeId → LetterId → NodeId → Work → Out
 shareOf s by letter to work =
-  helperDid s (by .number)
+    helperDid s (by .number)
     (shareStep (helperAt (s .helpers) (by .number)) letter to (room (s .parcels) by to) (room (s .parcels) by bossId) .helper)
     (shareStep (helperAt (s .helpers) (by .number)) letter to (room (s .parcels) by to) (room (s .parcels) by bossId) .outcome .post) work
     (shareStep (helperAt (s .helpers) (by .number)) letter to (room (s .parcels) by to) (room (s .parcels) by bossId) .outcome .answer)
 
 abbrev pub playShare : Scene → NodeId → LetterId → NodeId → Work → Out
 playShare s by letter to work =
-  cond (ltb (by .number) (length (s .helpers)))
+    cond (ltb (by .number) (length (s .helpers)))
     (cond (ltb (to .number) (length (s .helpers))) (shareOf s by letter to work) (refuse s Malformed))
     (refuse s Malformed)
 
 abbrev pub playRest : Scene → NodeId → LetterId → Out
 playRest s by letter =
-  cond (ltb (by .number) (length (s .helpers)))
+    cond (ltb (by .number) (length (s .helpers)))
     (helperDid s (by .number)
-      (restStep (helperAt (s .helpers) (by .number)) letter (room (s .parcels) by bossId) .helper)
-      (restStep (helperAt (s .helpers) (by .number)) letter (room (s .parcels) by bossId) .outcome .post) noWork
-      (restStep (helperAt (s .helpers) (by .number)) letter (room (s .parcels) by bossId) .outcome .answer))
+    (restStep (helperAt (s .helpers) (by .number)) letter (room (s .parcels) by bossId) .helper)
+    (restStep (helperAt (s .helpers) (by .number)) letter (room (s .parcels) by bossId) .outcome .post) noWork
+    (restStep (helperAt (s .helpers) (by .number)) letter (room (s .parcels) by bossId) .outcome .answer))
     (refuse s Malformed)
 
 abbrev pub playFlush : Scene → NodeId → Out
 playFlush s by =
-  cond (ltb (by .number) (length (s .helpers)))
+    cond (ltb (by .number) (length (s .helpers)))
     (helperDid s (by .number) (flushStep (helperAt (s .helpers) (by .number)) (room (s .parcels) by bossId) .helper) (flushStep (helperAt (s .helpers) (by .number)) (room (s .parcels) by bossId) .post) noWork Fine)
     (refuse s Malformed)
 
@@ -100,17 +98,17 @@ taken s k (Turned why) = refuse s why
 
 abbrev pub toHelper : Scene → ℕ → NodeId → Mail → Out
 toHelper s k r m =
-  taken (record { boss = s .boss; helpers = set (s .helpers) (r .number) (arriveStep (helperAt (s .helpers) (r .number)) (m .letter) (m .kind) (room (s .parcels) r bossId) .helper); parcels = s .parcels }) k
+    taken (record { boss = s .boss; helpers = set (s .helpers) (r .number) (arriveStep (helperAt (s .helpers) (r .number)) (m .letter) (m .kind) (room (s .parcels) r bossId) .helper); parcels = s .parcels }) k
     (arriveStep (helperAt (s .helpers) (r .number)) (m .letter) (m .kind) (room (s .parcels) r bossId) .taking)
 
 abbrev pub toBoss : Scene → ℕ → NodeId → NodeId → Mail → Out
 toBoss s k from r m =
-  taken (record { boss = receiveStep (s .boss) (m .sender) (m .letter) (m .kind) (room (s .parcels) r from) .boss; helpers = s .helpers; parcels = s .parcels }) k
+    taken (record { boss = receiveStep (s .boss) (m .sender) (m .letter) (m .kind) (room (s .parcels) r from) .boss; helpers = s .helpers; parcels = s .parcels }) k
     (receiveStep (s .boss) (m .sender) (m .letter) (m .kind) (room (s .parcels) r from) .taking)
 
 abbrev pub passAt : Scene → NodeId → NodeId → ℕ → Out
 passAt s from r k =
-  cond (ltb k (length (s .parcels)))
+    cond (ltb k (length (s .parcels)))
     (cond (ltb (r .number) (length (s .helpers))) (toHelper s k r (mailAt (mails (s .parcels)) k)) (toBoss s k from r (mailAt (mails (s .parcels)) k)))
     (refuse s Malformed)
 
@@ -161,9 +159,9 @@ passing m = Pass (m .sender) (m .receiver)
 
 abbrev pub nextOf : Scene → ℕ → ℕ → Option Command
 nextOf s k i =
-  cond (ltb k (length (s .parcels))) (Some (passing (mailAt (mails (s .parcels)) k)))
+    cond (ltb k (length (s .parcels))) (Some (passing (mailAt (mails (s .parcels)) k)))
     (cond (ltb 0 (length (s .parcels))) (Some (passing (mailAt (mails (s .parcels)) 0)))
-      (cond (ltb i (length (s .helpers))) (Some (Flush (helperAt (s .helpers) i .me))) None))
+    (cond (ltb i (length (s .helpers))) (Some (Flush (helperAt (s .helpers) i .me))) None))
 
 abbrev pub next : Scene → Option Command
 next s = nextOf s (seekHelper (s .parcels) (length (s .helpers))) (seekHolder (s .helpers))

@@ -43,7 +43,10 @@ impl Command {
     pub(crate) fn passing(mail: Mail) -> Command
         ensures { λ r. ⌜ r ≡ Command.Pass (mail .sender) (mail .receiver) ⌝ }
     {
-        Command::Pass { sender: mail.sender, receiver: mail.receiver }
+        Command::Pass {
+            sender: mail.sender,
+            receiver: mail.receiver,
+        }
     }
 }
 

@@ -1,13 +1,13 @@
 // Looking along the messages and the helpers.
 ghost use mathlib.Core.Path.{_≡_};
-ghost use Prim.Native.Nat.{ℕ, _+_, _-_, _<_, _≤_};
+ghost use Prim.Native.Nat.{_-_, _<_, _≤_};
 ghost use lib.ListN.{length};
 ghost use Rattle.runs.specs.System.{head, onLine};
 ghost use Rattle.stage.specs.Scenes.{mails, room, seekHelper, seekHolder};
+use crate::parcel::Parcel;
 use coins::helper::Helper;
 use coins::ids::NodeId;
 use coins::mail::Mail;
-use crate::parcel::Parcel;
 
 // As many messages of a sender to a receiver may be under way.
 pub const WINDOW: usize = 1024;

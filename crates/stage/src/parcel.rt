@@ -1,9 +1,9 @@
 // A message under way, with the bytes of its work beside it.
 ghost use mathlib.Core.Path.{_≡_};
 ghost use Rattle.stage.specs.Scenes.{parcelOf};
+use crate::work::Work;
 use coins::mail::Kind;
 use coins::mail::Mail;
-use crate::work::Work;
 
 #[derive(Clone, Copy)]
 pub struct Parcel {
@@ -18,10 +18,22 @@ impl Parcel {
     {
         match mail.kind {
             Kind::Work(_) => Parcel { mail, work },
-            Kind::More(_) => Parcel { mail, work: Work::none() },
-            Kind::Back(_) => Parcel { mail, work: Work::none() },
-            Kind::NoMore => Parcel { mail, work: Work::none() },
-            Kind::Ask => Parcel { mail, work: Work::none() },
+            Kind::More(_) => Parcel {
+                mail,
+                work: Work::none(),
+            },
+            Kind::Back(_) => Parcel {
+                mail,
+                work: Work::none(),
+            },
+            Kind::NoMore => Parcel {
+                mail,
+                work: Work::none(),
+            },
+            Kind::Ask => Parcel {
+                mail,
+                work: Work::none(),
+            },
         }
     }
 }

@@ -1,8 +1,7 @@
 // The stage: a boss, helpers and messages whose world is one that is reached from the start.
 ghost use mathlib.Core.Path.{_≡_};
 ghost use mathlib.Core.Bool.{false};
-ghost use mathlib.Core.List.{[]};
-ghost use Prim.Native.Nat.{ℕ, _+_, _<_, _≤_};
+ghost use Prim.Native.Nat.{_<_, _≤_};
 ghost use lib.ListN.{length};
 ghost use Rattle.std.specs.Of.Vec.{vec-items};
 ghost use Rattle.std.specs.Results.{Cases as ByOk};
@@ -10,19 +9,19 @@ ghost use Rattle.std.specs.declared.result.Result.the-variants.{Err};
 ghost use Rattle.coins.specs.Helpers.{holdingOf};
 ghost use Rattle.runs.specs.System.{Reach, Runs, start, helperAt};
 ghost use Rattle.runs.specs.Promise.{Promised};
-ghost use Rattle.stage.specs.Scenes.{Scene, world};
+ghost use Rattle.stage.specs.Scenes.{world};
 ghost use Rattle.stage.specs.Plays.{plays, noMemory, lacks, Outcome, Onward, Said, Settled, Calmed};
 ghost use Rattle.stage.specs.Tables.{scene};
-use coins::answer::Answer;
-use coins::boss::Boss;
-use coins::holding::Holding;
-use coins::ids::LetterId;
-use coins::ids::NodeId;
 use crate::command::Command;
 use crate::command::Reply;
 use crate::parcel::Parcel;
 use crate::table::Table;
 use crate::work::Work;
+use coins::answer::Answer;
+use coins::boss::Boss;
+use coins::holding::Holding;
+use coins::ids::LetterId;
+use coins::ids::NodeId;
 use std::alloc::Global;
 
 // Why there is no stage.
@@ -99,7 +98,11 @@ impl Stage {
         ensures { λ r. ⌜ (helper .number < length (vec-items (now (self .entry) .table .helpers)) → r ≡ holdingOf (helperAt (vec-items (now (self .entry) .table .helpers)) (helper .number)) (letter .number)) ⌝ }
     {
         let i = helper.number as usize;
-        if i < self.table.helpers.len() { self.table.helpers[i].holding(letter) } else { Holding::idle() }
+        if i < self.table.helpers.len() {
+            self.table.helpers[i].holding(letter)
+        } else {
+            Holding::idle()
+        }
     }
 
     // What is under way, the oldest first.

@@ -2,16 +2,22 @@
 ghost use mathlib.Core.Path.{_≡_};
 ghost use mathlib.Core.Bool.{false};
 ghost use mathlib.Core.List.{[]};
-ghost use Prim.Native.Nat.{ℕ, _+_, _<_, _≤_};
-ghost use lib.ListN.{length};
+ghost use Prim.Native.Nat.{_<_};
 ghost use Rattle.std.specs.Of.Vec.{vec-items, vec-len, vec-cap};
 ghost use Rattle.std.specs.Vec.{made};
 ghost use Rattle.runs.specs.System.{crew};
 ghost use Rattle.coins.specs.Bosses.{newBoss};
-ghost use Rattle.stage.specs.Works.{noWork};
-ghost use Rattle.stage.specs.Scenes.{Scene, sentOn};
-ghost use Rattle.stage.specs.Plays.{Out, refuse, taken, toHelper, toBoss, playGive, playShare, playRest, playSay, playFlush, playPass, plays, noMemory, lacks, Outcome, next};
+ghost use Rattle.stage.specs.Scenes.{sentOn};
+ghost use Rattle.stage.specs.Plays.{taken, toHelper, toBoss, playGive, playShare, playRest, playSay, playFlush, playPass, plays, noMemory, lacks, Outcome, next};
 ghost use Rattle.stage.specs.Tables.{scene};
+use crate::command::Command;
+use crate::command::Reply;
+use crate::lines::first_holder;
+use crate::lines::first_to_helper;
+use crate::lines::head;
+use crate::lines::room;
+use crate::parcel::Parcel;
+use crate::work::Work;
 use coins::answer::Answer;
 use coins::answer::Refusal;
 use coins::boss::Boss;
@@ -21,14 +27,6 @@ use coins::ids::NodeId;
 use coins::mail::Mail;
 use coins::mail::Post;
 use coins::mail::Taking;
-use crate::command::Command;
-use crate::command::Reply;
-use crate::lines::first_holder;
-use crate::lines::first_to_helper;
-use crate::lines::head;
-use crate::lines::room;
-use crate::parcel::Parcel;
-use crate::work::Work;
 use std::alloc::AllocError;
 use std::alloc::Global;
 
@@ -53,7 +51,11 @@ impl Table {
         for i in 0..n {
             helpers.push(Helper::new(NodeId { number: i }))?;
         }
-        Ok(Table { boss: Boss::new(), helpers, post: Vec::new(heap) })
+        Ok(Table {
+            boss: Boss::new(),
+            helpers,
+            post: Vec::new(heap),
+        })
     }
 
     // Puts what a step sends behind the others, with the bytes of its work. There is memory for it.
@@ -160,7 +162,8 @@ impl Table {
         ensures { λ r. ⌜ toHelper (scene (now (self .entry))) k receiver mail ≡ record { scene = scene (now (self .exit)); reply = r } ⌝ }
     {
         let boss = room(&self.post, receiver, NodeId::boss());
-        let taking = self.helpers[receiver.number as usize].arrive(mail.letter, mail.kind, boss);
+        let taking = self.helpers[receiver.number as usize]
+            .arrive(mail.letter, mail.kind, boss);
         self.settle(k, taking)
     }
 
@@ -170,7 +173,8 @@ impl Table {
         ensures { λ r. ⌜ toBoss (scene (now (self .entry))) k sender receiver mail ≡ record { scene = scene (now (self .exit)); reply = r } ⌝ }
     {
         let places = room(&self.post, receiver, sender);
-        let taking = self.boss.arrive(mail.sender, mail.letter, mail.kind, places);
+        let taking = self.boss
+            .arrive(mail.sender, mail.letter, mail.kind, places);
         self.settle(k, taking)
     }
 
@@ -216,7 +220,9 @@ impl Table {
         }
         let i = first_holder(&self.helpers);
         if i < self.helpers.len() {
-            return Some(Command::Flush { by: self.helpers[i].id() });
+            return Some(Command::Flush {
+                by: self.helpers[i].id(),
+            });
         }
         None
     }

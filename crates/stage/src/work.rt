@@ -1,6 +1,6 @@
 // The bytes of a piece of work.
 ghost use mathlib.Core.Path.{_≡_};
-ghost use Prim.Native.Nat.{ℕ, _<_, _≤_};
+ghost use Prim.Native.Nat.{_<_};
 ghost use lib.ListN.{length};
 ghost use Rattle.std.specs.Options.{Cases as BySome};
 ghost use Rattle.stage.specs.Works.{noWork, bytesOf};
@@ -19,7 +19,10 @@ impl Work {
     pub fn none() -> Work
         ensures { λ r. ⌜ r ≡ noWork ⌝ }
     {
-        Work { len: 0, bytes: [0; 256] }
+        Work {
+            len: 0,
+            bytes: [0; 256],
+        }
     }
 
     // Work with these bytes, or none where they are too many.

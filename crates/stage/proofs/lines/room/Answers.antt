@@ -9,9 +9,10 @@ loop-p-holds c = sym (room-none (c .args .sender) (c .args .receiver) (c .args .
 
 pub loop-p-again : need.loop-p-again
 loop-p-again c =
-    elim (c .if-on-line .came)
-      [ then-on-line w ↦ let z = room-more (c .args .sender) (c .args .receiver) (c .args .parcels .now) (c .loop-p .p-index) (omega arith) (sym (w .if-on-line .ensures tt)) in omega (arith, z, w .left-is, w .saturating-sub-left .ensures)
-      | else-on-line w ↦ let z = room-same (c .args .sender) (c .args .receiver) (c .args .parcels .now) (c .loop-p .p-index) (omega arith) (sym (w .if-on-line .ensures tt)) in omega (arith, z, w .left-is) ]
+    elim (c .if-on-line .came) [
+      | then-on-line w ↦ let z = room-more (c .args .sender) (c .args .receiver) (c .args .parcels .now) (c .loop-p .p-index) (omega arith) (sym (w .if-on-line .ensures tt)) in omega (arith, z, w .left-is, w .saturating-sub-left .ensures)
+      | else-on-line w ↦ let z = room-same (c .args .sender) (c .args .receiver) (c .args .parcels .now) (c .loop-p .p-index) (omega arith) (sym (w .if-on-line .ensures tt)) in omega (arith, z, w .left-is)
+    ]
 
 pub returns : need.returns
 returns c = let z = room-all (c .args .sender) (c .args .receiver) (c .args .parcels .now) (c .loop-p .p-index) (omega arith) in omega (arith, z)

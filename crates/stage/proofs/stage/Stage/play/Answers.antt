@@ -1,4 +1,3 @@
-use Rattle.stage.specs.Tables.{scene}
 use Rattle.runs.proofs.Theorems.{promised-of}
 use Rattle.stage.proofs.Played.{goes-on, reach-on, done-on}
 use Rattle.stage.proofs.stage.Stage.play.Needs as need
@@ -14,5 +13,5 @@ returns c =
       does = o;
       goes = goes-on _ _ (c .args .command) (c .args .work) (c .play .result) o q;
       promised = promised-of _ (reach-on _ _ (c .args .command) (c .args .work) (c .play .result) o q);
-      done = done-on _ _ (c .args .command) (c .args .work) (c .play .result) o q
+      done = done-on _ _ (c .args .command) (c .args .work) (c .play .result) o q;
     }

@@ -1,11 +1,10 @@
-use mathlib.Core.Path.{_≡_, refl, sym, ap, subst, _∙_}
-use mathlib.Core.Bool.{false}
+use mathlib.Core.Path.{sym, ap, subst}
 use Rattle.runs.specs.System.{still}
 use Rattle.runs.proofs.Theorems.{promised-of}
 use Rattle.stage.specs.declared.work.Work.{Work}
 use Rattle.stage.specs.Works.{noWork}
 use Rattle.stage.specs.Scenes.{world}
-use Rattle.stage.specs.Plays.{plays, lacks, noMemory, Outcome, next}
+use Rattle.stage.specs.Plays.{plays, lacks, noMemory, Outcome}
 use Rattle.stage.specs.Tables.{scene}
 use Rattle.stage.proofs.Played.{runs-on}
 use Rattle.stage.proofs.Settles.{falls, calm-on, settled, calmed}
@@ -13,10 +12,10 @@ use Rattle.stage.proofs.stage.Stage.settle.Needs as need
 
 -- what was played in this turn, with no bytes of work
 played : (c : need.In-rest-play) →
-  Outcome (lacks (c .in-Some .command) (c .play .result)) (plays (scene (c .loop-command .self .table)) (c .in-Some .command) noWork) (scene (c .loop-command .self .table)) (scene (c .play .last .self .table)) (c .play .result)
+    Outcome (lacks (c .in-Some .command) (c .play .result)) (plays (scene (c .loop-command .self .table)) (c .in-Some .command) noWork) (scene (c .loop-command .self .table)) (scene (c .play .last .self .table)) (c .play .result)
 played c =
     subst (λ (w : Work). Outcome (lacks (c .in-Some .command) (c .play .result)) (plays (scene (c .loop-command .self .table)) (c .in-Some .command) w) (scene (c .loop-command .self .table)) (scene (c .play .last .self .table)) (c .play .result))
-      (c .none .ensures) (c .play .ensures .does)
+    (c .none .ensures) (c .play .ensures .does)
 
 pub loop-command-holds : need.loop-command-holds
 loop-command-holds c = (still, λ letter pos q. q)
@@ -26,9 +25,10 @@ loop-command-less c =
     falls (scene (c .loop-command .self .table)) (scene (c .play .last .self .table)) (c .in-Some .command) (c .play .result) (played c) (ap noMemory (c .in-rest-play .is)) (c .loop-command .self .reached) (sym (c .in-Some .ensures tt))
 
 pub loop-command-again : need.loop-command-again
-loop-command-again c =
-    (runs-on _ _ _ (c .loop-command .inv .0) (c .play .ensures .goes),
-      calm-on (world (scene (c .args .self .now .table))) (scene (c .loop-command .self .table)) (scene (c .play .last .self .table)) (c .in-Some .command) (c .play .result) (played c) (c .loop-command .self .reached) (sym (c .in-Some .ensures tt)) (c .loop-command .inv .1))
+loop-command-again c = (
+  runs-on _ _ _ (c .loop-command .inv .0) (c .play .ensures .goes),
+  calm-on (world (scene (c .args .self .now .table))) (scene (c .loop-command .self .table)) (scene (c .play .last .self .table)) (c .in-Some .command) (c .play .result) (played c) (c .loop-command .self .reached) (sym (c .in-Some .ensures tt)) (c .loop-command .inv .1),
+)
 
 pub returns : need.returns
 returns c =
@@ -37,5 +37,5 @@ returns c =
       goes = c .loop-command .inv .0;
       promised = promised-of _ (c .loop-command .self .reached);
       settled = λ _. s;
-      calmed = λ _. calmed (world (scene (c .args .self .now .table))) (world (scene (c .loop-command .self .table))) (c .loop-command .self .reached) s (c .loop-command .inv .1)
+      calmed = λ _. calmed (world (scene (c .args .self .now .table))) (world (scene (c .loop-command .self .table))) (c .loop-command .self .reached) s (c .loop-command .inv .1);
     }

@@ -7,8 +7,8 @@ use Rattle.stage.proofs.stage.Stage.settle.Given as given
 
 abbrev pub Inv-loop-command : given.InvT-loop-command
 Inv-loop-command l =
-  Runs (world (scene (l .entry .self .table))) (world (scene (l .self .table))) ×
-  ((letter : ℕ) → 1 ≤ letter → Quiet (view letter (world (scene (l .entry .self .table)))) → Quiet (view letter (world (scene (l .self .table)))))
+    Runs (world (scene (l .entry .self .table))) (world (scene (l .self .table))) ×
+    ((letter : ℕ) → 1 ≤ letter → Quiet (view letter (world (scene (l .entry .self .table)))) → Quiet (view letter (world (scene (l .self .table)))))
 
 abbrev pub μ-loop-command : given.MeasureT-loop-command
 μ-loop-command l = load (world (scene (l .self .table)))

@@ -1,4 +1,3 @@
-use mathlib.Core.Path.{_≡_, sym}
 use Rattle.runs.specs.System.{crew}
 use Rattle.stage.proofs.Looks.{crew-more}
 use Rattle.stage.proofs.table.Table.new.Needs as need
