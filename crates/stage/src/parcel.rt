@@ -16,24 +16,10 @@ impl Parcel {
     pub(crate) fn new(mail: Mail, work: Work) -> Parcel
         ensures { λ r. ⌜ r ≡ parcelOf mail work ⌝ }
     {
-        match mail.kind {
-            Kind::Work(_) => Parcel { mail, work },
-            Kind::More(_) => Parcel {
-                mail,
-                work: Work::none(),
-            },
-            Kind::Back(_) => Parcel {
-                mail,
-                work: Work::none(),
-            },
-            Kind::NoMore => Parcel {
-                mail,
-                work: Work::none(),
-            },
-            Kind::Ask => Parcel {
-                mail,
-                work: Work::none(),
-            },
-        }
+        let work = match mail.kind {
+            Kind::Work(_) => work,
+            Kind::More(_) | Kind::Back(_) | Kind::NoMore | Kind::Ask => Work::none(),
+        };
+        Parcel { mail, work }
     }
 }
