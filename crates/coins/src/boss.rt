@@ -196,4 +196,14 @@ impl Boss {
             Kind::NoMore => Taking::Refused(Refusal::Malformed),
         }
     }
+
+    // A boss that gave so many coins of one letter before.
+    #[cfg(test)]
+    pub(crate) fn given_before(letter: LetterId, given: u64) -> Boss {
+        let mut boss = Boss::new();
+        boss.highest = letter.number;
+        boss.letters[0] = letter.number;
+        boss.given[0] = given;
+        boss
+    }
 }

@@ -8,3 +8,5 @@ pub mod ids;
 pub mod letters;
 pub mod mail;
 mod purse;
+#[cfg(test)]
+mod tests;
