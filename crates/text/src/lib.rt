@@ -1,0 +1,3 @@
+// Text as bytes: hexadecimal and decimal numbers, both ways.
+pub mod decimal;
+pub mod hex;
