@@ -1,0 +1,104 @@
+// A rehearsal: a stage on which a script is played, line by line.
+use crate::answer::push_answer;
+use crate::line::Fault;
+use crate::line::Line;
+use crate::read::read;
+use crate::show::push_stage;
+use coins::answer::Answer;
+use coins::answer::Refusal;
+use coins::ids::NodeId;
+use coins::letters::LETTERS;
+use stage::command::Command;
+use stage::command::Reply;
+use stage::stage::Stage;
+use stage::work::Work;
+use std::alloc::AllocError;
+use std::alloc::Global;
+
+// The helpers that there are before a script says otherwise.
+const HELPERS: u16 = 8;
+
+#[derive(Drop)]
+pub struct Rehearsal {
+    heap: Global,
+    stage: Stage,
+}
+
+fn staged(heap: Global, helpers: u16) -> Result<Stage, AllocError> {
+    match Stage::new(heap, helpers) {
+        Ok(stage) => Ok(stage),
+        Err(_) => Err(AllocError),
+    }
+}
+
+fn answered(reply: Reply) -> Result<Answer, AllocError> {
+    match reply {
+        Reply::Answered(answer) => Ok(answer),
+        Reply::NoMemory => Err(AllocError),
+    }
+}
+
+impl Rehearsal {
+    pub fn new(heap: Global) -> Result<Rehearsal, AllocError> {
+        Ok(Rehearsal {
+            heap,
+            stage: staged(heap, HELPERS)?,
+        })
+    }
+
+    // Coins that waited for a place go, where there is one.
+    fn flush(&mut self, by: NodeId) -> Result<(), AllocError> {
+        answered(self.stage.play(Command::Flush { by }, Work::none()))?;
+        Ok(())
+    }
+
+    // Plays a command. Where a helper's message came, there is a place for coins that waited.
+    fn play(&mut self, command: Command, bytes: &[u8]) -> Result<Answer, AllocError> {
+        let Some(work) = Work::new(bytes) else {
+            return Ok(Answer::Refused(Refusal::Malformed));
+        };
+        let answer = answered(self.stage.play(command, work))?;
+        if let (Command::Pass { sender, .. }, Answer::Fine) = (command, answer) {
+            self.flush(sender)?;
+        }
+        Ok(answer)
+    }
+
+    // Messages come until none is left; then coins that waited for a place go, and come too.
+    fn settle(&mut self) -> Result<Answer, AllocError> {
+        for _ in 0..LETTERS + 1 {
+            answered(self.stage.settle())?;
+            for i in 0..self.stage.helpers().min(256) {
+                self.flush(NodeId { number: i as u16 })?;
+            }
+            if self.stage.parcels().is_empty() {
+                break;
+            }
+        }
+        Ok(Answer::Fine)
+    }
+
+    fn restart(&mut self, helpers: u16) -> Result<Answer, AllocError> {
+        self.stage = staged(self.heap, helpers)?;
+        Ok(Answer::Fine)
+    }
+
+    fn show(&self, out: &mut Vec<u8>) -> Result<Answer, AllocError> {
+        push_stage(self.heap, out, &self.stage)?;
+        Ok(Answer::Fine)
+    }
+
+    // Plays a line, and puts what is shown and answered behind what is there.
+    pub fn step(&mut self, line: &[u8], out: &mut Vec<u8>) -> Result<(), AllocError> {
+        let answer = match read(self.heap, line) {
+            Ok(Line::Empty) => return Ok(()),
+            Ok(Line::Play { command, work }) => self.play(command, &work)?,
+            Ok(Line::Settle) => self.settle()?,
+            Ok(Line::Show) => self.show(out)?,
+            Ok(Line::New { helpers }) => self.restart(helpers)?,
+            Err(Fault::Unreadable) => Answer::Refused(Refusal::Malformed),
+            Err(Fault::NoMemory) => return Err(AllocError),
+        };
+        push_answer(out, answer)
+    }
+}
