@@ -1,11 +1,10 @@
 -- Hexadecimal: two digits to a byte, the high one first.
-use Prim.Native.Nat.{ℕ, _+_, _-_, _*_, _/_, _%_, _<_}
+use Prim.Native.Nat.{ℕ, _+_, _-_, _*_, _/_, _%_}
 use mathlib.Core.Path.{_≡_}
 use mathlib.Core.Bool.{Bool, true, false, cond, _&&_, _||_}
-use mathlib.Core.Logic.{_⊎_}
-use mathlib.Core.List.{List, [], _∷_, _++_}
-use lib.Dec.{ltb, leb}
-use lib.ListN.{length, getD}
+use mathlib.Core.List.{List, [], _∷_}
+use lib.Dec.{eqb, ltb, leb}
+use lib.ListN.{length}
 use Rattle.std.specs.Joined.{joined}
 use Rattle.std.specs.declared.option.Option.{Option}
 use Rattle.std.specs.declared.option.Option.the-variants.{Some, None}
@@ -27,19 +26,29 @@ hexValue b = cond (isHex b) (Some (nibbleOf b)) None
 abbrev pub hexDigit : ℕ → ℕ
 hexDigit n = cond (ltb n 10) (48 + n) (87 + n)
 
--- the byte that the k-th pair of digits stands for
-unfoldable pub byteAt : List ℕ → ℕ → ℕ
-byteAt text k = 16 * nibbleOf (getD text (2 * k) 0) + nibbleOf (getD text (2 * k + 1) 0)
+unfoldable pub allHex : List ℕ → Bool
+allHex [] = true
+allHex (b ∷ bs) = isHex b && allHex bs
 
--- the text is the hexadecimal of the bytes
-pub record Unhexed (text bytes : List ℕ) : Type 0 where
-  pub even : length text ≡ 2 * length bytes
-  pub digits : (k : ℕ) → k < length text → isHex (getD text k 0) ≡ true
-  pub values : (k : ℕ) → k < length bytes → getD bytes k 0 ≡ byteAt text k
+-- the byte that two digits stand for, and the bytes that pairs of digits stand for
+abbrev pub byteOf : ℕ → ℕ → ℕ
+byteOf high low = 16 * nibbleOf high + nibbleOf low
 
--- why a text gives no bytes: an odd number of digits, or a place with no digit
+abbrev pub pairOf : ℕ → ℕ → Option ℕ
+pairOf high low = cond (isHex high && isHex low) (Some (byteOf high low)) None
+
+unfoldable pub bytesOf : List ℕ → List ℕ
+bytesOf [] = []
+bytesOf (high ∷ []) = []
+bytesOf (high ∷ low ∷ rest) = byteOf high low ∷ bytesOf rest
+
+-- a text that is the hexadecimal of bytes: an even number of digits
+unfoldable pub isHexText : List ℕ → Bool
+isHexText text = eqb (length text % 2) 0 && allHex text
+
+-- why a text gives no bytes
 abbrev pub Fails : List ℕ → HexFault → Type 0
-Fails text NotHex = (length text % 2 ≡ 1) ⊎ ((k : ℕ) × (k < length text) × (isHex (getD text k 0) ≡ false))
+Fails text NotHex = isHexText text ≡ false
 Fails text NoMemory = Unit {0}
 
 -- the two digits of a byte, and those of all bytes

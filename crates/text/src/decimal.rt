@@ -8,7 +8,7 @@ ghost use Rattle.std.specs.Of.Vec.{vec-items};
 ghost use Rattle.std.specs.Vec.{made};
 ghost use Rattle.std.specs.Written.{decimal};
 ghost use Rattle.std.specs.Options.{Cases as BySome};
-ghost use Rattle.text.specs.Decimal.{isDigit, value, Numeral};
+ghost use Rattle.text.specs.Decimal.{isDigit, numberOf};
 use std::alloc::AllocError;
 
 // A number has at most so many digits.
@@ -26,14 +26,14 @@ fn digit(byte: u8) -> Option<u8>
 
 // A number with one more digit behind it, if that is below 2^64.
 fn append(number: u64, digit: u8) -> Option<u64>
-    ensures { λ r. ⌜ BySome r (2 ^ 64 ≤ number * 10 + digit) (λ n. n ≡ number * 10 + digit) ⌝ }
+    ensures { λ r. ⌜ BySome r (2 ^ 64 ≤ number * 10 + digit) (λ n. (n ≡ number * 10 + digit) × (n < 2 ^ 64)) ⌝ }
 {
     number.checked_mul(10)?.checked_add(digit as u64)
 }
 
 // The number that a text of 1 to 20 digits writes, if it is below 2^64. Zeros may lead.
 pub fn number(text: &[u8]) -> Option<u64>
-    ensures { λ r. ⌜ BySome r (Numeral (now (text .entry)) → 2 ^ 64 ≤ value (now (text .entry))) (λ n. Numeral (now (text .entry)) × (n ≡ value (now (text .entry)))) ⌝ }
+    ensures { λ r. ⌜ r ≡ numberOf (now (text .entry)) ⌝ }
 {
     if text.is_empty() || text.len() > LONGEST {
         return None;

@@ -1,16 +1,14 @@
 // Bytes in hexadecimal: two digits to a byte, the high one first; the digits are 0 to 9 and a to f.
 ghost use mathlib.Core.Path.{_≡_};
-ghost use mathlib.Core.Bool.{true, false};
-ghost use mathlib.Core.Logic.{_⊎_};
+ghost use mathlib.Core.Bool.{true};
 ghost use mathlib.Core.List.{_++_};
-ghost use Prim.Native.Nat.{ℕ, _+_, _*_, _<_, _≤_};
+ghost use Prim.Native.Nat.{_+_, _*_, _<_};
 ghost use lib.ListN.{length, getD};
 ghost use Rattle.std.specs.Of.Vec.{vec-items};
 ghost use Rattle.std.specs.Vec.{made};
-ghost use Rattle.std.specs.Options.{Cases as BySome};
 ghost use Rattle.std.specs.Results.{Cases as ByOk};
 ghost use Rattle.text.specs.declared.hex.HexFault.the-variants.{NoMemory};
-ghost use Rattle.text.specs.Hex.{isHex, hexValue, hexDigit, byteAt, hexOf, Unhexed, Fails};
+ghost use Rattle.text.specs.Hex.{isHex, hexValue, hexDigit, pairOf, bytesOf, isHexText, hexOf, Fails};
 use std::alloc::AllocError;
 use std::alloc::Global;
 use std::alloc::Refused;
@@ -65,7 +63,7 @@ fn digit_of(nibble: u8) -> u8
 // The byte that the k-th pair of digits stands for.
 fn pair(text: &[u8], k: usize) -> Option<u8>
     requires { ⌜ 2 * k + 1 < length (now text) ⌝ }
-    ensures { λ r. ⌜ BySome r ((isHex (getD (now (text .entry)) (2 * k) 0) ≡ false) ⊎ (isHex (getD (now (text .entry)) (2 * k + 1) 0) ≡ false)) (λ b. (isHex (getD (now (text .entry)) (2 * k) 0) ≡ true) × (isHex (getD (now (text .entry)) (2 * k + 1) 0) ≡ true) × (b ≡ byteAt (now (text .entry)) k)) ⌝ }
+    ensures { λ r. ⌜ r ≡ pairOf (getD (now (text .entry)) (2 * k) 0) (getD (now (text .entry)) (2 * k + 1) 0) ⌝ }
 {
     let high = nibble(text[2 * k])?;
     let low = nibble(text[2 * k + 1])?;
@@ -74,7 +72,7 @@ fn pair(text: &[u8], k: usize) -> Option<u8>
 
 // The bytes whose hexadecimal the text is.
 pub fn unhex(heap: Global, text: &[u8]) -> Result<Vec<u8>, HexFault>
-    ensures { λ r. ⌜ ByOk r (λ v. Unhexed (now (text .entry)) (vec-items v)) (λ e. Fails (now (text .entry)) e) ⌝ }
+    ensures { λ r. ⌜ ByOk r (λ v. (isHexText (now (text .entry)) ≡ true) × (vec-items v ≡ bytesOf (now (text .entry)))) (λ e. Fails (now (text .entry)) e) ⌝ }
 {
     if text.len() % 2 != 0 {
         return Err(HexFault::NotHex);
