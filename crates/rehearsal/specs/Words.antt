@@ -5,6 +5,7 @@ use mathlib.Core.List.{List}
 use lib.Dec.{eqb, ltb}
 use lib.ListN.{length, take, drop}
 use Rattle.std.specs.shelf.Lists.{leading}
+use Rattle.std.specs.shelf.Text.{sameBytes}
 use Rattle.rehearsal.specs.declared.words.Class.{Class}
 use Rattle.rehearsal.specs.declared.words.Class.the-variants.{Code, Blank, Ink}
 
@@ -34,3 +35,7 @@ wordOf text = take (front Ink (startOf text)) (startOf text)
 
 unfoldable pub restOf : List ℕ → List ℕ
 restOf text = drop (front Ink (startOf text)) (startOf text)
+
+-- a word is this one
+unfoldable pub same : List ℕ → List ℕ → Bool
+same word name = sameBytes word name

@@ -1,6 +1,5 @@
 // A rehearsal: a stage on which a script is played, line by line.
 use crate::answer::push_answer;
-use crate::line::Fault;
 use crate::line::Line;
 use crate::read::read;
 use crate::show::push_stage;
@@ -14,6 +13,8 @@ use stage::stage::Stage;
 use stage::work::Work;
 use std::alloc::AllocError;
 use std::alloc::Global;
+use text::hex::HexFault;
+use text::hex::unhex;
 
 // The helpers that there are before a script says otherwise.
 const HELPERS: u16 = 8;
@@ -52,9 +53,18 @@ impl Rehearsal {
         Ok(())
     }
 
+    // The work whose bytes are given in hexadecimal, if they are and are not too many.
+    fn work(&self, hex: &[u8]) -> Result<Option<Work>, AllocError> {
+        match unhex(self.heap, hex) {
+            Ok(bytes) => Ok(Work::new(&bytes)),
+            Err(HexFault::NotHex) => Ok(None),
+            Err(HexFault::NoMemory) => Err(AllocError),
+        }
+    }
+
     // Plays a command. Where a helper's message came, there is a place for coins that waited.
-    fn play(&mut self, command: Command, bytes: &[u8]) -> Result<Answer, AllocError> {
-        let Some(work) = Work::new(bytes) else {
+    fn play(&mut self, command: Command, hex: &[u8]) -> Result<Answer, AllocError> {
+        let Some(work) = self.work(hex)? else {
             return Ok(Answer::Refused(Refusal::Malformed));
         };
         let answer = answered(self.stage.play(command, work))?;
@@ -90,14 +100,13 @@ impl Rehearsal {
 
     // Plays a line, and puts what is shown and answered behind what is there.
     pub fn step(&mut self, line: &[u8], out: &mut Vec<u8>) -> Result<(), AllocError> {
-        let answer = match read(self.heap, line) {
-            Ok(Line::Empty) => return Ok(()),
-            Ok(Line::Play { command, work }) => self.play(command, &work)?,
-            Ok(Line::Settle) => self.settle()?,
-            Ok(Line::Show) => self.show(out)?,
-            Ok(Line::New { helpers }) => self.restart(helpers)?,
-            Err(Fault::Unreadable) => Answer::Refused(Refusal::Malformed),
-            Err(Fault::NoMemory) => return Err(AllocError),
+        let answer = match read(line) {
+            Some(Line::Empty) => return Ok(()),
+            Some(Line::Play { command, hex }) => self.play(command, hex)?,
+            Some(Line::Settle) => self.settle()?,
+            Some(Line::Show) => self.show(out)?,
+            Some(Line::New { helpers }) => self.restart(helpers)?,
+            None => Answer::Refused(Refusal::Malformed),
         };
         push_answer(out, answer)
     }

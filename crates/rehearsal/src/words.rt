@@ -4,7 +4,7 @@ ghost use mathlib.Core.Bool.{true, false};
 ghost use Prim.Native.Nat.{ℕ, _≤_};
 ghost use lib.ListN.{length};
 ghost use Rattle.std.specs.Options.{Cases as BySome};
-ghost use Rattle.rehearsal.specs.Words.{isOf, front, codeOf, hasWord, wordOf, restOf};
+ghost use Rattle.rehearsal.specs.Words.{isOf, front, codeOf, hasWord, wordOf, restOf, same};
 
 // Kinds of bytes.
 #[derive(Clone, Copy)]
@@ -59,4 +59,11 @@ pub(crate) fn split(text: &[u8]) -> Option<(&[u8], &[u8])>
         return None;
     }
     Some(start.split_at(leading(start, Class::Ink)))
+}
+
+// Whether a word is this one.
+pub(crate) fn is(word: &[u8], name: &[u8]) -> bool
+    ensures { λ r. ⌜ r ≡ same (now (word .entry)) (now (name .entry)) ⌝ }
+{
+    word == name
 }

@@ -11,8 +11,9 @@ use Rattle.text.proofs.decimal.number.Needs.{then-is-empty·by·then-is-empty,
 pub returns-then-is-empty : need.returns-then-is-empty
 returns-then-is-empty c =
     elim (c .then-is-empty .came) [
-      then-is-empty·by·then-is-empty w ↦ sym (too-long (c .args .text .now) (inl (search needs)))
-    | then-is-empty·by·else-is-empty·then-text-gt-LONGEST w ↦ sym (too-long (c .args .text .now) (inr (w .if-text-gt-LONGEST .taken))) ]
+      | then-is-empty·by·then-is-empty w ↦ sym (too-long (c .args .text .now) (inl (search needs)))
+      | then-is-empty·by·else-is-empty·then-text-gt-LONGEST w ↦ sym (too-long (c .args .text .now) (inr (w .if-text-gt-LONGEST .taken)))
+    ]
 
 pub returns-in-Break-digit : need.returns-in-Break-digit
 returns-in-Break-digit c =
@@ -22,12 +23,14 @@ returns-in-Break-digit c =
 pub returns-in-Break-number : need.returns-in-Break-number
 returns-in-Break-number c =
     rw (c .from-residual-in-Break-number .ensures)
-    (sym (too-big (c .args .text .now) (omega (arith,
+    (sym (too-big (c .args .text .now) (omega (
+      arith,
       c .loop-byte .inv .0,
       value-more (c .loop-byte .number) (c .args .text .now) (c .loop-byte .byte-index) (omega arith),
       value-ge (c .loop-byte .number * 10 + (getD (c .args .text .now) (c .loop-byte .byte-index) 0 - 48)) (drop (c .loop-byte .byte-index + 1) (c .args .text .now)),
       c .in-Break-number .ensures tt,
-      c .in-Continue-digit .ensures tt .1))))
+      c .in-Continue-digit .ensures tt .1,
+    ))))
 
 pub loop-byte-again : need.loop-byte-again
 loop-byte-again c =
@@ -40,6 +43,6 @@ loop-byte-again c =
 pub returns : need.returns
 returns c =
     sym (number-is (c .args .text .now) (c .loop-byte .number) (search needs) (c .if-text-gt-LONGEST .left)
-      (sym (c .loop-byte .inv .1) ∙ digits-all (c .args .text .now) (c .loop-byte .byte-index) (omega arith))
-      (sym (c .loop-byte .inv .0) ∙ value-all (c .loop-byte .number) (c .args .text .now) (c .loop-byte .byte-index) (omega arith))
-      (c .loop-byte .inv .2))
+    (sym (c .loop-byte .inv .1) ∙ digits-all (c .args .text .now) (c .loop-byte .byte-index) (omega arith))
+    (sym (c .loop-byte .inv .0) ∙ value-all (c .loop-byte .number) (c .args .text .now) (c .loop-byte .byte-index) (omega arith))
+    (c .loop-byte .inv .2))

@@ -33,13 +33,15 @@ loop-k-again c =
     let text = c .args .text .now in
     let k = c .loop-k .k in
     let pair = some-cond _ _ _ (c .in-Some .ensures tt) in
-    let two : 2 * (k + 1) ≡ 2 * k + 2 = omega arith in
-    ( read-more text (vec-items (c .loop-k .bytes)) (vec-items (c .push .last .self)) k (c .in-Some .byte) (omega arith) (c .in-Continue-push .ensures tt .items) (pair .1) (c .loop-k .inv .0)
-    , rw two (sym (hex-more text (2 * k) (omega arith) (pair .0)) ∙ c .loop-k .inv .1) )
+    let two : 2 * (k + 1) ≡ 2 * k + 2 = omega arith in (
+      read-more text (vec-items (c .loop-k .bytes)) (vec-items (c .push .last .self)) k (c .in-Some .byte) (omega arith) (c .in-Continue-push .ensures tt .items) (pair .1) (c .loop-k .inv .0),
+      rw two (sym (hex-more text (2 * k) (omega arith) (pair .0)) ∙ c .loop-k .inv .1),
+    )
 
 pub returns : need.returns
 returns c =
     let text = c .args .text .now in
-    let none : bytesOf (drop (2 * c .loop-k .k) text) ≡ [] = bytes-all text (2 * c .loop-k .k) (omega arith) in
-    ( hex-yes text (omega arith) (sym (c .loop-k .inv .1) ∙ hex-all text (2 * c .loop-k .k) (omega arith))
-    , sym (append-nil (vec-items (c .loop-k .bytes))) ∙ (rw none at (c .loop-k .inv .0)) )
+    let none : bytesOf (drop (2 * c .loop-k .k) text) ≡ [] = bytes-all text (2 * c .loop-k .k) (omega arith) in (
+      hex-yes text (omega arith) (sym (c .loop-k .inv .1) ∙ hex-all text (2 * c .loop-k .k) (omega arith)),
+      sym (append-nil (vec-items (c .loop-k .bytes))) ∙ (rw none at (c .loop-k .inv .0)),
+    )
