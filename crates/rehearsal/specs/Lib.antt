@@ -2,3 +2,4 @@ pub mod Words
 pub mod Parts
 pub mod Lines
 pub mod Answers
+pub mod Tables

@@ -1,23 +1,30 @@
 // An answer as a line of text.
-ghost use mathlib.Core.Path.{_≡_};
-ghost use mathlib.Core.List.{_++_};
 ghost use Rattle.std.specs.Of.Vec.{vec-items};
 ghost use Rattle.std.specs.Vec.{made};
+ghost use Rattle.text.specs.Growth.{Added};
 ghost use Rattle.rehearsal.specs.Answers.{answerLine};
 use coins::answer::Answer;
+use coins::answer::Refusal;
 use std::alloc::AllocError;
+use text::decimal::push_number;
+use text::plain::push_text;
+
+fn push_refusal(out: &mut Vec<u8>, why: Refusal) -> Result<(), AllocError>
+    ensures { λ r. ⌜ made r (λ _. Added (vec-items (now (out .entry))) (vec-items (now (out .exit))) (answerLine (Answer.Refused why))) ⌝ }
+{
+    push_text(out, b"refused ")?;
+    push_number(out, why.number() as u64)?;
+    push_text(out, b"\n")?;
+    Ok(())
+}
 
 // Puts an answer's line behind what is there.
 pub fn push_answer(out: &mut Vec<u8>, answer: Answer) -> Result<(), AllocError>
-    ensures { λ r. ⌜ made r (λ _. vec-items (now (out .exit)) ≡ vec-items (now (out .entry)) ++ answerLine answer) ⌝ }
+    ensures { λ r. ⌜ made r (λ _. Added (vec-items (now (out .entry))) (vec-items (now (out .exit))) (answerLine answer)) ⌝ }
 {
     match answer {
-        Answer::Fine => out.extend_from_slice(b"ok\n")?,
-        Answer::Done => out.extend_from_slice(b"done\n")?,
-        Answer::Refused(why) => {
-            out.extend_from_slice(b"refused ")?;
-            out.extend_from_slice(&[b'0' + why.number(), b'\n'])?;
-        }
+        Answer::Fine => push_text(out, b"ok\n"),
+        Answer::Done => push_text(out, b"done\n"),
+        Answer::Refused(why) => push_refusal(out, why),
     }
-    Ok(())
 }

@@ -1,9 +1,15 @@
 // The table of all letters that are open, and what is under way of them.
+ghost use mathlib.Core.Path.{_≡_};
+ghost use Rattle.std.specs.Of.Vec.{vec-items};
+ghost use Rattle.std.specs.Vec.{made};
+ghost use Rattle.text.specs.Growth.{Added};
+ghost use Rattle.rehearsal.specs.Tables.{coinsColumn, countsRow, workColumn, askedColumn, helperRow, nodeColumn, kindColumn, bytesColumn, mailRow};
 use coins::holding::Holding;
 use coins::ids::BOSS;
 use coins::ids::LetterId;
 use coins::ids::NodeId;
 use coins::mail::Kind;
+use coins::mail::Mail;
 use stage::parcel::Parcel;
 use stage::stage::Stage;
 use std::alloc::AllocError;
@@ -11,9 +17,7 @@ use std::alloc::Global;
 use text::decimal::push_aligned;
 use text::decimal::push_number;
 use text::hex::push_hex;
-
-// The columns that coins have.
-const COINS: usize = 10;
+use text::plain::push_text;
 
 // Puts the table of all open letters behind what is there, by their numbers.
 pub fn push_stage(heap: Global, out: &mut Vec<u8>, stage: &Stage) -> Result<(), AllocError> {
@@ -27,31 +31,34 @@ pub fn push_stage(heap: Global, out: &mut Vec<u8>, stage: &Stage) -> Result<(), 
         }
     }
     if !is_any {
-        out.extend_from_slice(b"no letter is open\n")?;
+        push_text(out, b"no letter is open\n")?;
     }
     Ok(())
 }
 
 fn push_letter(out: &mut Vec<u8>, stage: &Stage, letter: LetterId) -> Result<(), AllocError> {
-    push_counts(out, stage, letter)?;
+    let boss = stage.boss();
+    push_counts(out, letter, boss.given(letter), boss.back(letter))?;
     push_helpers(out, stage, letter)?;
     push_parcels(out, stage.parcels(), letter)?;
     Ok(())
 }
 
-fn push_counts(out: &mut Vec<u8>, stage: &Stage, letter: LetterId) -> Result<(), AllocError> {
-    out.extend_from_slice(b"letter ")?;
+fn push_counts(out: &mut Vec<u8>, letter: LetterId, given: u64, back: u64) -> Result<(), AllocError>
+    ensures { λ r. ⌜ made r (λ _. Added (vec-items (now (out .entry))) (vec-items (now (out .exit))) (countsRow letter given back)) ⌝ }
+{
+    push_text(out, b"letter ")?;
     push_number(out, letter.number as u64)?;
-    out.extend_from_slice(b": given ")?;
-    push_number(out, stage.boss().given(letter))?;
-    out.extend_from_slice(b", back ")?;
-    push_number(out, stage.boss().back(letter))?;
-    out.extend_from_slice(b"\n")?;
+    push_text(out, b": given ")?;
+    push_number(out, given)?;
+    push_text(out, b", back ")?;
+    push_number(out, back)?;
+    push_text(out, b"\n")?;
     Ok(())
 }
 
 fn push_helpers(out: &mut Vec<u8>, stage: &Stage, letter: LetterId) -> Result<(), AllocError> {
-    out.extend_from_slice(b"  helper       coins  at work  asked\n")?;
+    push_text(out, b"  helper       coins  at work  asked\n")?;
     for i in 0..stage.helpers().min(256) {
         let helper = NodeId { number: i as u16 };
         push_helper(out, helper, stage.holding(helper, letter))?;
@@ -59,15 +66,37 @@ fn push_helpers(out: &mut Vec<u8>, stage: &Stage, letter: LetterId) -> Result<()
     Ok(())
 }
 
-fn push_helper(out: &mut Vec<u8>, helper: NodeId, holding: Holding) -> Result<(), AllocError> {
+fn push_helper(out: &mut Vec<u8>, helper: NodeId, holding: Holding) -> Result<(), AllocError>
+    ensures { λ r. ⌜ made r (λ _. Added (vec-items (now (out .entry))) (vec-items (now (out .exit))) (helperRow helper holding)) ⌝ }
+{
     push_aligned(out, helper.number as u64, 8)?;
-    push_aligned(out, holding.coins, COINS + 2)?;
-    out.extend_from_slice(if holding.working {
-        b"  yes    "
-    } else {
-        b"  no     "
-    })?;
-    out.extend_from_slice(if holding.asked { b"  yes\n" } else { b"  no\n" })?;
+    push_coins(out, holding.coins)?;
+    push_text(out, work_column(holding.working))?;
+    push_text(out, asked_column(holding.asked))?;
+    push_text(out, b"\n")?;
+    Ok(())
+}
+
+// Whether a helper is at work, with two spaces before it, in nine columns.
+fn work_column(working: bool) -> &'static [u8]
+    ensures { λ r. ⌜ now r ≡ workColumn working ⌝ }
+{
+    if working { b"  yes    " } else { b"  no     " }
+}
+
+// Whether it has asked for more, with two spaces before it.
+fn asked_column(asked: bool) -> &'static [u8]
+    ensures { λ r. ⌜ now r ≡ askedColumn asked ⌝ }
+{
+    if asked { b"  yes" } else { b"  no" }
+}
+
+// Two spaces, and coins on the right of ten columns.
+fn push_coins(out: &mut Vec<u8>, coins: u64) -> Result<(), AllocError>
+    ensures { λ r. ⌜ made r (λ _. Added (vec-items (now (out .entry))) (vec-items (now (out .exit))) (coinsColumn coins)) ⌝ }
+{
+    push_text(out, b"  ")?;
+    push_aligned(out, coins, 10)?;
     Ok(())
 }
 
@@ -77,33 +106,34 @@ fn push_parcels(out: &mut Vec<u8>, parcels: &[Parcel], letter: LetterId) -> Resu
     for parcel in parcels {
         if parcel.mail.letter.number == letter.number {
             if !is_any {
-                out.extend_from_slice(b"  from    to  kind       coins  bytes\n")?;
+                push_text(out, b"  from    to  kind       coins  bytes\n")?;
             }
             is_any = true;
-            push_parcel(out, parcel)?;
+            push_mail(out, parcel.mail, parcel.work.bytes())?;
         }
     }
     Ok(())
 }
 
-fn push_parcel(out: &mut Vec<u8>, parcel: &Parcel) -> Result<(), AllocError> {
-    push_node(out, parcel.mail.sender)?;
-    push_node(out, parcel.mail.receiver)?;
-    out.extend_from_slice(kind_name(parcel.mail.kind))?;
-    push_aligned(out, parcel.mail.kind.coins(), COINS + 2)?;
-    let bytes = parcel.work.bytes();
-    if !bytes.is_empty() {
-        out.extend_from_slice(b"  ")?;
-        push_hex(out, bytes)?;
-    }
-    out.extend_from_slice(b"\n")?;
+// A message, and the bytes of its work.
+fn push_mail(out: &mut Vec<u8>, mail: Mail, bytes: &[u8]) -> Result<(), AllocError>
+    ensures { λ r. ⌜ made r (λ _. Added (vec-items (now (out .entry))) (vec-items (now (out .exit))) (mailRow mail (now (bytes .entry)))) ⌝ }
+{
+    push_node(out, mail.sender)?;
+    push_node(out, mail.receiver)?;
+    push_text(out, kind_column(mail.kind))?;
+    push_coins(out, mail.kind.coins())?;
+    push_bytes(out, bytes)?;
+    push_text(out, b"\n")?;
     Ok(())
 }
 
 // A helper's number, or `boss`, on the right of six columns.
-fn push_node(out: &mut Vec<u8>, node: NodeId) -> Result<(), AllocError> {
+fn push_node(out: &mut Vec<u8>, node: NodeId) -> Result<(), AllocError>
+    ensures { λ r. ⌜ made r (λ _. Added (vec-items (now (out .entry))) (vec-items (now (out .exit))) (nodeColumn node)) ⌝ }
+{
     if node.number == BOSS {
-        out.extend_from_slice(b"  boss")?;
+        push_text(out, b"  boss")?;
     } else {
         push_aligned(out, node.number as u64, 6)?;
     }
@@ -111,7 +141,9 @@ fn push_node(out: &mut Vec<u8>, node: NodeId) -> Result<(), AllocError> {
 }
 
 // The name of a kind, with two spaces before it, in six columns.
-fn kind_name(kind: Kind) -> &'static [u8] {
+fn kind_column(kind: Kind) -> &'static [u8]
+    ensures { λ r. ⌜ now r ≡ kindColumn kind ⌝ }
+{
     match kind {
         Kind::Work(_) => b"  work",
         Kind::More(_) => b"  more",
@@ -119,4 +151,16 @@ fn kind_name(kind: Kind) -> &'static [u8] {
         Kind::NoMore => b"  none",
         Kind::Ask => b"  ask ",
     }
+}
+
+// Two spaces and bytes in hexadecimal, where there are some.
+fn push_bytes(out: &mut Vec<u8>, bytes: &[u8]) -> Result<(), AllocError>
+    ensures { λ r. ⌜ made r (λ _. Added (vec-items (now (out .entry))) (vec-items (now (out .exit))) (bytesColumn (now (bytes .entry)))) ⌝ }
+{
+    if bytes.is_empty() {
+        return Ok(());
+    }
+    push_text(out, b"  ")?;
+    push_hex(out, bytes)?;
+    Ok(())
 }

@@ -1,3 +1,4 @@
+pub mod Growing
 pub mod Values
 pub mod Pairs
 pub mod Spaces

@@ -2,13 +2,15 @@
 ghost use mathlib.Core.Path.{_≡_};
 ghost use mathlib.Core.Bool.{true, false};
 ghost use mathlib.Core.List.{_++_};
-ghost use Prim.Native.Nat.{ℕ, _+_, _-_, _*_, _^_, _<_, _≤_};
-ghost use lib.ListN.{length, getD, replicate};
+ghost use Prim.Native.Nat.{_+_, _-_, _*_, _^_, _<_, _≤_};
+ghost use lib.ListN.{length, replicate};
 ghost use Rattle.std.specs.Of.Vec.{vec-items};
 ghost use Rattle.std.specs.Vec.{made};
 ghost use Rattle.std.specs.Written.{decimal};
 ghost use Rattle.std.specs.Options.{Cases as BySome};
+ghost use Rattle.text.specs.Growth.{Added};
 ghost use Rattle.text.specs.Decimal.{isDigit, numberOf};
+use crate::plain::push_spaces;
 use std::alloc::AllocError;
 
 // A number has at most so many digits.
@@ -58,7 +60,7 @@ pub fn digits(number: u64) -> usize
 
 // Puts a number's digits behind what is there.
 pub fn push_number(out: &mut Vec<u8>, number: u64) -> Result<(), AllocError>
-    ensures { λ r. ⌜ made r (λ _. vec-items (now (out .exit)) ≡ vec-items (now (out .entry)) ++ decimal number) ⌝ }
+    ensures { λ r. ⌜ made r (λ _. Added (vec-items (now (out .entry))) (vec-items (now (out .exit))) (decimal number)) ⌝ }
 {
     if number >= 10 {
         push_number(out, number / 10)?;
@@ -67,19 +69,9 @@ pub fn push_number(out: &mut Vec<u8>, number: u64) -> Result<(), AllocError>
     Ok(())
 }
 
-// Puts so many spaces behind what is there.
-pub fn push_spaces(out: &mut Vec<u8>, count: usize) -> Result<(), AllocError>
-    ensures { λ r. ⌜ made r (λ _. vec-items (now (out .exit)) ≡ vec-items (now (out .entry)) ++ replicate count 32) ⌝ }
-{
-    for _ in 0..count {
-        out.push(b' ')?;
-    }
-    Ok(())
-}
-
 // Puts a number behind what is there, on the right of so many columns; a longer one takes what it needs.
 pub fn push_aligned(out: &mut Vec<u8>, number: u64, width: usize) -> Result<(), AllocError>
-    ensures { λ r. ⌜ made r (λ _. vec-items (now (out .exit)) ≡ vec-items (now (out .entry)) ++ (replicate (width - length (decimal number)) 32 ++ decimal number)) ⌝ }
+    ensures { λ r. ⌜ made r (λ _. Added (vec-items (now (out .entry))) (vec-items (now (out .exit))) (replicate (width - length (decimal number)) 32 ++ decimal number)) ⌝ }
 {
     push_spaces(out, width.saturating_sub(digits(number)))?;
     push_number(out, number)?;

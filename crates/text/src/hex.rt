@@ -1,14 +1,14 @@
 // Bytes in hexadecimal: two digits to a byte, the high one first; the digits are 0 to 9 and a to f.
 ghost use mathlib.Core.Path.{_≡_};
 ghost use mathlib.Core.Bool.{true};
-ghost use mathlib.Core.List.{_++_};
 ghost use Prim.Native.Nat.{_+_, _*_, _<_};
 ghost use lib.ListN.{length, getD};
 ghost use Rattle.std.specs.Of.Vec.{vec-items};
 ghost use Rattle.std.specs.Vec.{made};
 ghost use Rattle.std.specs.Results.{Cases as ByOk};
+ghost use Rattle.text.specs.Growth.{Added};
 ghost use Rattle.text.specs.declared.hex.HexFault.the-variants.{NoMemory};
-ghost use Rattle.text.specs.Hex.{isHex, hexValue, hexDigit, pairOf, bytesOf, isHexText, hexOf, Fails};
+ghost use Rattle.text.specs.Hex.{hexValue, hexDigit, pairOf, bytesOf, isHexText, hexOf, Fails};
 use std::alloc::AllocError;
 use std::alloc::Global;
 use std::alloc::Refused;
@@ -90,7 +90,7 @@ pub fn unhex(heap: Global, text: &[u8]) -> Result<Vec<u8>, HexFault>
 
 // Puts the hexadecimal of the bytes behind what is there.
 pub fn push_hex(out: &mut Vec<u8>, bytes: &[u8]) -> Result<(), AllocError>
-    ensures { λ r. ⌜ made r (λ _. vec-items (now (out .exit)) ≡ vec-items (now (out .entry)) ++ hexOf (now (bytes .entry))) ⌝ }
+    ensures { λ r. ⌜ made r (λ _. Added (vec-items (now (out .entry))) (vec-items (now (out .exit))) (hexOf (now (bytes .entry)))) ⌝ }
 {
     for byte in bytes {
         out.extend_from_slice(&[digit_of(*byte / 16), digit_of(*byte % 16)])?;

@@ -1,3 +1,4 @@
 // Text as bytes: hexadecimal and decimal numbers, both ways.
 pub mod decimal;
 pub mod hex;
+pub mod plain;

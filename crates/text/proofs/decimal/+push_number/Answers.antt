@@ -14,12 +14,12 @@ returns t c =
     let pushed = c .in-Continue-push .ensures tt .items in
     elim (c .if-number-ge10 .came) [
       | then-number-ge10·in-Continue-push-number w ↦
-          (let front = w .in-Continue-push-number .ensures tt in
+          (let front = w .in-Continue-push-number .ensures tt .is in
           let step = decimal-step (c .args .number) (w .if-number-ge10 .taken) (omega arith) in
           let grouped = append-assoc (vec-items (c .args .out .now)) (decimal (c .args .number / 10)) ((48 + c .args .number % 10) ∷ []) in
-          cc)
+          record { is = cc })
       | else-number-ge10 w ↦
           (let one = decimal-digit (c .args .number) (w .if-number-ge10 .left) in
           let same : c .args .number % 10 ≡ c .args .number = omega (arith, w .if-number-ge10 .left) in
-          cc)
+          record { is = cc })
     ]

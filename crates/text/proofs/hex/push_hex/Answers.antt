@@ -19,4 +19,4 @@ loop-byte-again c =
     all
 
 pub returns : need.returns
-returns c = rw (take-all (c .loop-byte .byte-index) (c .args .bytes .now) (omega arith)) at (c .loop-byte .inv)
+returns c = record { is = rw (take-all (c .loop-byte .byte-index) (c .args .bytes .now) (omega arith)) at (c .loop-byte .inv) }
