@@ -3,3 +3,4 @@ pub mod Parts
 pub mod Lines
 pub mod Answers
 pub mod Tables
+pub mod Steps

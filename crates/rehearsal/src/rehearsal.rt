@@ -1,4 +1,10 @@
 // A rehearsal: a stage on which a script is played, line by line.
+ghost use mathlib.Core.Path.{_≡_};
+ghost use Rattle.std.specs.Of.Vec.{vec-items};
+ghost use Rattle.std.specs.Vec.{made};
+ghost use Rattle.std.specs.Results.{Cases as ByOk};
+ghost use Rattle.rehearsal.specs.Lines.{isLine, lineIn};
+ghost use Rattle.rehearsal.specs.Steps.{Says};
 use crate::answer::push_answer;
 use crate::line::Line;
 use crate::read::read;
@@ -32,7 +38,9 @@ fn staged(heap: Global, helpers: u16) -> Result<Stage, AllocError> {
     }
 }
 
-fn answered(reply: Reply) -> Result<Answer, AllocError> {
+fn answered(reply: Reply) -> Result<Answer, AllocError>
+    ensures { λ r. ⌜ ByOk r (λ a. reply ≡ Reply.Answered a) (λ _. reply ≡ Reply.NoMemory) ⌝ }
+{
     match reply {
         Reply::Answered(answer) => Ok(answer),
         Reply::NoMemory => Err(AllocError),
@@ -75,7 +83,9 @@ impl Rehearsal {
     }
 
     // Messages come until none is left; then coins that waited for a place go, and come too.
-    fn settle(&mut self) -> Result<Answer, AllocError> {
+    fn settle(&mut self) -> Result<Answer, AllocError>
+        ensures { λ r. ⌜ made r (λ a. a ≡ Answer.Fine) ⌝ }
+    {
         for _ in 0..LETTERS + 1 {
             answered(self.stage.settle())?;
             for i in 0..self.stage.helpers().min(256) {
@@ -88,18 +98,24 @@ impl Rehearsal {
         Ok(Answer::Fine)
     }
 
-    fn restart(&mut self, helpers: u16) -> Result<Answer, AllocError> {
+    fn restart(&mut self, helpers: u16) -> Result<Answer, AllocError>
+        ensures { λ r. ⌜ made r (λ a. a ≡ Answer.Fine) ⌝ }
+    {
         self.stage = staged(self.heap, helpers)?;
         Ok(Answer::Fine)
     }
 
-    fn show(&self, out: &mut Vec<u8>) -> Result<Answer, AllocError> {
+    fn show(&self, out: &mut Vec<u8>) -> Result<Answer, AllocError>
+        ensures { λ r. ⌜ made r (λ a. a ≡ Answer.Fine) ⌝ }
+    {
         push_stage(self.heap, out, &self.stage)?;
         Ok(Answer::Fine)
     }
 
     // Plays a line, and puts what is shown and answered behind what is there.
-    pub fn step(&mut self, line: &[u8], out: &mut Vec<u8>) -> Result<(), AllocError> {
+    pub fn step(&mut self, line: &[u8], out: &mut Vec<u8>) -> Result<(), AllocError>
+        ensures { λ r. ⌜ made r (λ _. Says (isLine (now (line .entry))) (lineIn (now (line .entry))) (vec-items (now (out .entry))) (vec-items (now (out .exit)))) ⌝ }
+    {
         let answer = match read(line) {
             Some(Line::Empty) => return Ok(()),
             Some(Line::Play { command, hex }) => self.play(command, hex)?,
