@@ -1,6 +1,9 @@
 // What a line of a script asks for.
 use stage::command::Command;
 
+// The most helpers that a script may ask for, and those that there are before it asks.
+pub(crate) const HELPERS: u16 = 8;
+
 #[derive(Clone, Copy)]
 pub enum Line<'a> {
     // a blank line, or a comment alone

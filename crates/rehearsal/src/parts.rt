@@ -29,7 +29,7 @@ pub(crate) fn number_to(word: &[u8], most: u64) -> Option<u64>
     if n <= most { Some(n) } else { None }
 }
 
-// A word as a helper's number.
+// A word as a helper's number, at most 255.
 fn helper_named(word: &[u8]) -> Option<NodeId>
     ensures { λ r. ⌜ BySome r (isTo 255 (now (word .entry)) ≡ false) (λ i. (isTo 255 (now (word .entry)) ≡ true) × (i ≡ nodeNamed (now (word .entry)))) ⌝ }
 {
@@ -39,11 +39,12 @@ fn helper_named(word: &[u8]) -> Option<NodeId>
     })
 }
 
+// A letter's number.
 pub(crate) fn letter(text: &[u8]) -> Option<(LetterId, &[u8])>
     ensures { λ r. ⌜ BySome r (isLetter (now (text .entry)) ≡ false) (λ p. (isLetter (now (text .entry)) ≡ true) × (p .0 ≡ letterIn (now (text .entry))) × (now (p .1) ≡ restOf (now (text .entry)))) ⌝ }
 {
     let (word, rest) = split(text)?;
-    let number = number_to(word, 4294967295)?;
+    let number = number_to(word, u32::MAX as u64)?;
     Some((
         LetterId {
             number: number as u32,
@@ -52,6 +53,7 @@ pub(crate) fn letter(text: &[u8]) -> Option<(LetterId, &[u8])>
     ))
 }
 
+// A helper's number.
 pub(crate) fn helper(text: &[u8]) -> Option<(NodeId, &[u8])>
     ensures { λ r. ⌜ BySome r (isHelper (now (text .entry)) ≡ false) (λ p. (isHelper (now (text .entry)) ≡ true) × (p .0 ≡ helperIn (now (text .entry))) × (now (p .1) ≡ restOf (now (text .entry)))) ⌝ }
 {

@@ -1,6 +1,7 @@
 // Reads a line.
 ghost use Rattle.rehearsal.specs.Parts.{isLetter};
 ghost use Rattle.rehearsal.specs.Lines.{Reads, isGive, give as giveIn, isSay, say as sayIn, share as shareIn, rest as restIn, isBossLine, bossLine, isHelperLine, helperLine, isPass, pass as passIn, isNew, afresh as newIn, canBegin, begin as beginIn, isLine, lineIn};
+use crate::line::HELPERS;
 use crate::line::Line;
 use crate::parts::end;
 use crate::parts::helper;
@@ -110,13 +111,13 @@ fn pass(text: &[u8]) -> Option<Line<'_>>
     })
 }
 
-// What follows `new`: at most 8 helpers.
+// What follows `new`.
 fn new(text: &[u8]) -> Option<Line<'_>>
     ensures { λ r. ⌜ Reads r (isNew (now (text .entry))) (newIn (now (text .entry))) ⌝ }
 {
     let (word, text) = split(text)?;
     end(text)?;
-    let helpers = number_to(word, 8)?;
+    let helpers = number_to(word, HELPERS as u64)?;
     Some(Line::New {
         helpers: helpers as u16,
     })

@@ -6,11 +6,13 @@ ghost use Rattle.std.specs.Results.{Cases as ByOk};
 ghost use Rattle.rehearsal.specs.Lines.{isLine, lineIn};
 ghost use Rattle.rehearsal.specs.Steps.{Says};
 use crate::answer::push_answer;
+use crate::line::HELPERS;
 use crate::line::Line;
 use crate::read::read;
 use crate::show::push_stage;
 use coins::answer::Answer;
 use coins::answer::Refusal;
+use coins::ids::BOSS;
 use coins::ids::NodeId;
 use coins::letters::LETTERS;
 use stage::command::Command;
@@ -21,9 +23,6 @@ use std::alloc::AllocError;
 use std::alloc::Global;
 use text::hex::HexFault;
 use text::hex::unhex;
-
-// The helpers that there are before a script says otherwise.
-const HELPERS: u16 = 8;
 
 #[derive(Drop)]
 pub struct Rehearsal {
@@ -77,7 +76,9 @@ impl Rehearsal {
         };
         let answer = answered(self.stage.play(command, work))?;
         if let (Command::Pass { sender, .. }, Answer::Fine) = (command, answer) {
-            self.flush(sender)?;
+            if sender.number != BOSS {
+                self.flush(sender)?;
+            }
         }
         Ok(answer)
     }
