@@ -1,0 +1,4 @@
+pub mod Hex
+pub mod Decimal
+pub mod Growth
+pub mod Returns
