@@ -14,7 +14,6 @@ use coins::answer::Answer;
 use coins::answer::Refusal;
 use coins::ids::BOSS;
 use coins::ids::NodeId;
-use coins::letters::LETTERS;
 use stage::command::Command;
 use stage::command::Reply;
 use stage::stage::Stage;
@@ -83,19 +82,11 @@ impl Rehearsal {
         Ok(answer)
     }
 
-    // Messages come until none is left; then coins that waited for a place go, and come too.
+    // Messages come until none is left.
     fn settle(&mut self) -> Result<Answer, AllocError>
         ensures { λ r. ⌜ made r (λ a. a ≡ Answer.Fine) ⌝ }
     {
-        for _ in 0..LETTERS + 1 {
-            answered(self.stage.settle())?;
-            for i in 0..self.stage.helpers().min(256) {
-                self.flush(NodeId { number: i as u16 })?;
-            }
-            if self.stage.parcels().is_empty() {
-                break;
-            }
-        }
+        answered(self.stage.settle())?;
         Ok(Answer::Fine)
     }
 
