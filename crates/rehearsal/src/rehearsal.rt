@@ -4,7 +4,10 @@ ghost use Rattle.std.specs.Of.Vec.{vec-items};
 ghost use Rattle.std.specs.Vec.{made};
 ghost use Rattle.std.specs.Results.{Cases as ByOk};
 ghost use Rattle.rehearsal.specs.Lines.{isLine, lineIn};
-ghost use Rattle.rehearsal.specs.Steps.{Says};
+ghost use Rattle.runs.specs.System.{Runs, start};
+ghost use Rattle.stage.specs.Plays.{Said};
+ghost use Rattle.stage.specs.Stages.{worldOn};
+ghost use Rattle.rehearsal.specs.Steps.{Says, Turns};
 use crate::answer::push_answer;
 use crate::line::HELPERS;
 use crate::line::Line;
@@ -29,7 +32,9 @@ pub struct Rehearsal {
     stage: Stage,
 }
 
-fn staged(heap: Global, helpers: u16) -> Result<Stage, AllocError> {
+fn staged(heap: Global, helpers: u16) -> Result<Stage, AllocError>
+    ensures { λ r. ⌜ made r (λ s. worldOn s ≡ start helpers) ⌝ }
+{
     match Stage::new(heap, helpers) {
         Ok(stage) => Ok(stage),
         Err(_) => Err(AllocError),
@@ -46,7 +51,10 @@ fn answered(reply: Reply) -> Result<Answer, AllocError>
 }
 
 impl Rehearsal {
-    pub fn new(heap: Global) -> Result<Rehearsal, AllocError> {
+    // A rehearsal with eight helpers, on which nothing has happened.
+    pub fn new(heap: Global) -> Result<Rehearsal, AllocError>
+        ensures { λ r. ⌜ made r (λ x. worldOn (x .stage) ≡ start 8) ⌝ }
+    {
         Ok(Rehearsal {
             heap,
             stage: staged(heap, HELPERS)?,
@@ -54,7 +62,9 @@ impl Rehearsal {
     }
 
     // Coins that waited for a place go, where there is one.
-    fn flush(&mut self, by: NodeId) -> Result<(), AllocError> {
+    fn flush(&mut self, by: NodeId) -> Result<(), AllocError>
+        ensures { λ _. ⌜ Runs (worldOn (now (self .entry) .stage)) (worldOn (now (self .exit) .stage)) ⌝ }
+    {
         answered(self.stage.play(Command::Flush { by }, Work::none()))?;
         Ok(())
     }
@@ -68,30 +78,56 @@ impl Rehearsal {
         }
     }
 
-    // Plays a command. Where a helper's message came, there is a place for coins that waited.
-    fn play(&mut self, command: Command, hex: &[u8]) -> Result<Answer, AllocError> {
+    // Where a helper's message came, there is a place for coins that waited.
+    fn follow(&mut self, command: Command, answer: Answer) -> Result<(), AllocError>
+        ensures goes { λ _. ⌜ Runs (worldOn (now (self .entry) .stage)) (worldOn (now (self .exit) .stage)) ⌝ }
+        ensures done { λ _. ⌜ (answer ≡ Answer.Done → worldOn (now (self .exit) .stage) ≡ worldOn (now (self .entry) .stage)) ⌝ }
+    {
+        let Command::Pass { sender, .. } = command else {
+            return Ok(());
+        };
+        let Answer::Fine = answer else {
+            return Ok(());
+        };
+        if sender.number == BOSS {
+            return Ok(());
+        }
+        self.flush(sender)
+    }
+
+    // Plays a command, and what follows it.
+    fn act(&mut self, command: Command, work: Work) -> Result<Answer, AllocError>
+        ensures goes { λ _. ⌜ Runs (worldOn (now (self .entry) .stage)) (worldOn (now (self .exit) .stage)) ⌝ }
+        ensures done { λ r. ⌜ made r (λ a. a ≡ Answer.Done → Said command (worldOn (now (self .exit) .stage))) ⌝ }
+    {
+        let answer = answered(self.stage.play(command, work))?;
+        self.follow(command, answer)?;
+        Ok(answer)
+    }
+
+    // Plays a command of a line, with the hexadecimal of its work.
+    fn play(&mut self, command: Command, hex: &[u8]) -> Result<Answer, AllocError>
+        ensures goes { λ _. ⌜ Runs (worldOn (now (self .entry) .stage)) (worldOn (now (self .exit) .stage)) ⌝ }
+        ensures done { λ r. ⌜ made r (λ a. a ≡ Answer.Done → Said command (worldOn (now (self .exit) .stage))) ⌝ }
+    {
         let Some(work) = self.work(hex)? else {
             return Ok(Answer::Refused(Refusal::Malformed));
         };
-        let answer = answered(self.stage.play(command, work))?;
-        if let (Command::Pass { sender, .. }, Answer::Fine) = (command, answer) {
-            if sender.number != BOSS {
-                self.flush(sender)?;
-            }
-        }
-        Ok(answer)
+        self.act(command, work)
     }
 
     // Messages come until none is left.
     fn settle(&mut self) -> Result<Answer, AllocError>
-        ensures { λ r. ⌜ made r (λ a. a ≡ Answer.Fine) ⌝ }
+        ensures goes { λ _. ⌜ Runs (worldOn (now (self .entry) .stage)) (worldOn (now (self .exit) .stage)) ⌝ }
+        ensures value { λ r. ⌜ made r (λ a. a ≡ Answer.Fine) ⌝ }
     {
         answered(self.stage.settle())?;
         Ok(Answer::Fine)
     }
 
     fn restart(&mut self, helpers: u16) -> Result<Answer, AllocError>
-        ensures { λ r. ⌜ made r (λ a. a ≡ Answer.Fine) ⌝ }
+        ensures after { λ r. ⌜ made r (λ _. worldOn (now (self .exit) .stage) ≡ start helpers) ⌝ }
+        ensures value { λ r. ⌜ made r (λ a. a ≡ Answer.Fine) ⌝ }
     {
         self.stage = staged(self.heap, helpers)?;
         Ok(Answer::Fine)
@@ -106,7 +142,8 @@ impl Rehearsal {
 
     // Plays a line, and puts what is shown and answered behind what is there.
     pub fn step(&mut self, line: &[u8], out: &mut Vec<u8>) -> Result<(), AllocError>
-        ensures { λ r. ⌜ made r (λ _. Says (isLine (now (line .entry))) (lineIn (now (line .entry))) (vec-items (now (out .entry))) (vec-items (now (out .exit)))) ⌝ }
+        ensures says { λ r. ⌜ made r (λ _. Says (isLine (now (line .entry))) (lineIn (now (line .entry))) (worldOn (now (self .exit) .stage)) (vec-items (now (out .entry))) (vec-items (now (out .exit)))) ⌝ }
+        ensures turns { λ r. ⌜ made r (λ _. Turns (isLine (now (line .entry))) (lineIn (now (line .entry))) (worldOn (now (self .entry) .stage)) (worldOn (now (self .exit) .stage))) ⌝ }
     {
         let answer = match read(line) {
             Some(Line::Empty) => return Ok(()),

@@ -191,6 +191,10 @@ pub reach-on : {w v : World} → Reach w → Runs w v → Reach v
 reach-on r still = r
 reach-on r (onward q s) = then (reach-on r q) s
 
+pub runs-then : {w v u : World} → Runs w v → Runs v u → Runs w u
+runs-then p still = p
+runs-then p (onward q s) = onward (runs-then p q) s
+
 done-next : {w v : World} → Reach w → Step w v → (n : ℕ) → 1 ≤ n → isDone (w .boss) n ≡ true → isDone (v .boss) n ≡ true
 done-next {w} {v} r s n pos d =
     elim (steps-are-moves w v r s n pos) [ inl m ↦ stays m d | inr e ↦ ap (λ (u : View). u .done) e ∙ d ]
