@@ -144,7 +144,7 @@ fn begin<'a>(first: &'a [u8], text: &'a [u8]) -> Option<Line<'a>>
 }
 
 // What a line asks for, if it can be read.
-pub fn read(line: &[u8]) -> Option<Line<'_>>
+pub(crate) fn read(line: &[u8]) -> Option<Line<'_>>
     ensures { λ r. ⌜ Reads r (isLine (now (line .entry))) (lineIn (now (line .entry))) ⌝ }
 {
     let Some((first, text)) = split(code(line)) else {

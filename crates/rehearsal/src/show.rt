@@ -20,7 +20,7 @@ use text::hex::push_hex;
 use text::plain::push_text;
 
 // Puts the table of all open letters behind what is there, by their numbers.
-pub fn push_stage(heap: Global, out: &mut Vec<u8>, stage: &Stage) -> Result<(), AllocError> {
+pub(crate) fn push_stage(heap: Global, out: &mut Vec<u8>, stage: &Stage) -> Result<(), AllocError> {
     let mut numbers = Vec::from_slice(heap, stage.boss().letters())?;
     numbers.sort();
     let mut is_any = false;
