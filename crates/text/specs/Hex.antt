@@ -46,10 +46,10 @@ bytesOf (high ∷ low ∷ rest) = byteOf high low ∷ bytesOf rest
 unfoldable pub isHexText : List ℕ → Bool
 isHexText text = eqb (length text % 2) 0 && allHex text
 
--- why a text gives no bytes
+-- why a text gives no bytes; memory is asked for only where the number of digits is even
 abbrev pub Fails : List ℕ → HexFault → Type 0
 Fails text NotHex = isHexText text ≡ false
-Fails text NoMemory = Unit {0}
+Fails text NoMemory = length text % 2 ≡ 0
 
 -- the two digits of a byte, and those of all bytes
 abbrev pub hexPair : ℕ → List ℕ

@@ -13,11 +13,11 @@ use Rattle.text.proofs.Pairs.{some-cond, none-cond, hex-more, hex-no, hex-all,
 use Rattle.text.proofs.hex.unhex.Needs as need
 
 pub returns-in-Break-bytes : need.returns-in-Break-bytes
-returns-in-Break-bytes c = let p = err-from-errBy (c .from-residual .result) (c .from-residual .ensures .1) in rw (p .1, p .2) tt
+returns-in-Break-bytes c = let p = err-from-errBy (c .from-residual .result) (c .from-residual .ensures .1) in rw (p .1, p .2) (omega arith)
 
 pub returns-in-Break-push : need.returns-in-Break-push
 returns-in-Break-push c =
-    let p = err-from-errBy (c .from-residual-in-Break-push .result) (c .from-residual-in-Break-push .ensures .1) in rw (p .1, p .2) tt
+    let p = err-from-errBy (c .from-residual-in-Break-push .result) (c .from-residual-in-Break-push .ensures .1) in rw (p .1, p .2) (omega arith)
 
 pub returns-then-text-ne0 : need.returns-then-text-ne0
 unfolding isHexText
