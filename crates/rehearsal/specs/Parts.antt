@@ -1,6 +1,6 @@
 -- The parts of a line: numbers, letters, helpers and work, each in the first word of a text.
 use Prim.Native.Nat.{ℕ, _-_}
-use mathlib.Core.Bool.{Bool, true, cond, not, _&&_, _||_}
+use mathlib.Core.Bool.{Bool, cond, not, _&&_, _||_}
 use mathlib.Core.List.{List, []}
 use lib.Chars.{codes}
 use lib.Dec.{eqb, ltb, leb}

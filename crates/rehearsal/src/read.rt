@@ -1,5 +1,4 @@
 // Reads a line.
-ghost use Rattle.rehearsal.specs.Parts.{isLetter};
 ghost use Rattle.rehearsal.specs.Lines.{Reads, isGive, give as giveIn, isSay, say as sayIn, share as shareIn, rest as restIn, isBossLine, bossLine, isHelperLine, helperLine, isPass, pass as passIn, isNew, afresh as newIn, canBegin, begin as beginIn, isLine, lineIn};
 use crate::line::HELPERS;
 use crate::line::Line;

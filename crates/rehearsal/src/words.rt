@@ -1,7 +1,7 @@
 // The words of a line, separated by spaces and tabs. A comment goes from `#` to the end of the line.
 ghost use mathlib.Core.Path.{_≡_};
 ghost use mathlib.Core.Bool.{true, false};
-ghost use Prim.Native.Nat.{ℕ, _≤_};
+ghost use Prim.Native.Nat.{_≤_};
 ghost use lib.ListN.{length};
 ghost use Rattle.std.specs.Options.{Cases as BySome};
 ghost use Rattle.rehearsal.specs.Words.{isOf, front, codeOf, hasWord, wordOf, restOf, same};

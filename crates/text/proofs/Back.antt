@@ -1,8 +1,8 @@
 -- What is written is read back.
-use Prim.Native.Nat.{ℕ, _+_, _*_, _/_, _%_, _^_, _<_}
+use Prim.Native.Nat.{ℕ, _*_, _/_, _%_, _<_}
 use native.Mathlib.Omega.{arith}
-use mathlib.Core.Path.{_≡_, refl, ap, _∙_}
-use mathlib.Core.Bool.{true, _&&_}
+use mathlib.Core.Path.{_≡_, refl, ap}
+use mathlib.Core.Bool.{true}
 use mathlib.Core.List.{List, [], _∷_}
 use lib.ListN.{length}
 use borrow.Author.Needs.{needs}
@@ -10,7 +10,7 @@ use Rattle.std.proofs.shelf.Ways.{tells}
 use Rattle.std.proofs.shelf.Numerals.{Numerals, numerals-by-fold}
 use Rattle.std.proofs.shelf.Decimals.{decimal-some, length-decimal-le, digits-decimal, value-decimal}
 use Rattle.std.specs.Written.{decimal}
-use Rattle.text.specs.Hex.{isHex, nibbleOf, hexDigit, byteOf, allHex, bytesOf, isHexText, hexOf}
+use Rattle.text.specs.Hex.{isHex, nibbleOf, hexDigit, byteOf, allHex, bytesOf, hexOf}
 use Rattle.text.specs.Decimal.{allDigits, valueAfter}
 use Rattle.text.specs.Returns.{AreBytes, HexReturns, NumberReturns}
 use Rattle.text.proofs.Pairs.{hex-yes}

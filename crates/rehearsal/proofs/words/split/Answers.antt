@@ -1,8 +1,6 @@
-use native.Mathlib.Omega.{arith}
 use mathlib.Core.Path.{_≡_}
 use mathlib.Core.Bool.{true}
 use borrow.Author.Needs.{needs}
-use Rattle.std.proofs.shelf.Ways.{tells}
 use Rattle.rehearsal.specs.Words.{hasWord}
 use Rattle.rehearsal.proofs.Fronts.{words-from}
 use Rattle.rehearsal.proofs.words.split.Needs as need

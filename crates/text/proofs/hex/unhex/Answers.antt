@@ -2,13 +2,12 @@ use Prim.Native.Nat.{_+_, _*_}
 use native.Mathlib.Omega.{arith}
 use mathlib.Core.Path.{_≡_, sym, _∙_}
 use mathlib.Core.List.{[]}
-use lib.ListN.{drop, getD}
-use borrow.Author.Needs.{needs}
+use lib.ListN.{drop}
 use Rattle.std.proofs.shelf.Lists.{append-nil}
 use Rattle.std.proofs.shelf.Ways.{tells}
 use Rattle.std.proofs.shelf.Results.{err-from-errBy}
 use Rattle.std.specs.Of.Vec.{vec-items}
-use Rattle.text.specs.Hex.{allHex, bytesOf, isHexText}
+use Rattle.text.specs.Hex.{bytesOf, isHexText}
 use Rattle.text.proofs.Pairs.{some-cond, none-cond, hex-more, hex-no, hex-all, bytes-all, read-more, hex-yes, hex-not}
 use Rattle.text.proofs.hex.unhex.Needs as need
 

@@ -1,5 +1,5 @@
 use borrow.Author.Needs.{needs}
-use mathlib.Core.Path.{_≡_, sym, subst}
+use mathlib.Core.Path.{sym, subst}
 use Rattle.runs.specs.System.{still}
 use Rattle.runs.proofs.Theorems.{runs-then}
 use Rattle.stage.specs.Plays.{Said}
