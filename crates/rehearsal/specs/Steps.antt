@@ -10,7 +10,7 @@ use Rattle.coins.specs.declared.answer.Refusal.the-variants.{Malformed}
 use Rattle.runs.specs.System.{World, Runs, start}
 use Rattle.stage.specs.Plays.{Said}
 use Rattle.rehearsal.specs.Answers.{answerLine}
-use Rattle.rehearsal.specs.Lines.{Plan, empty, play, settle, show, new}
+use Rattle.script.specs.Lines.{Plan, empty, play, settle, show, new}
 
 -- a line that can't be read is refused, an empty one says nothing, and every other is answered by one line; v is the
 -- world after it: done is said only by say, of a letter on which nobody is at work and no work is under way

@@ -1,9 +1,5 @@
 // A script that is played on a stage, line by line, and what is answered and shown.
 mod answer;
-mod line;
-mod parts;
-mod read;
 pub mod rehearsal;
 pub mod run;
 mod show;
-mod words;

@@ -48,7 +48,7 @@ pub fn number(text: &[u8]) -> Option<u64>
 }
 
 // How many digits a number has.
-pub fn digits(number: u64) -> usize
+pub(crate) fn digits(number: u64) -> usize
     ensures { λ r. ⌜ r ≡ length (decimal number) ⌝ }
 {
     if number < 10 {

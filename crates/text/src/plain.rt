@@ -14,7 +14,7 @@ pub fn push_text(out: &mut Vec<u8>, text: &[u8]) -> Result<(), AllocError>
 }
 
 // Puts so many spaces behind what is there.
-pub fn push_spaces(out: &mut Vec<u8>, count: usize) -> Result<(), AllocError>
+pub(crate) fn push_spaces(out: &mut Vec<u8>, count: usize) -> Result<(), AllocError>
     ensures { λ r. ⌜ made r (λ _. Added (vec-items (now (out .entry))) (vec-items (now (out .exit))) (replicate count 32)) ⌝ }
 {
     for _ in 0..count {

@@ -2,7 +2,7 @@
 use stage::command::Command;
 
 // The most helpers that a script may ask for, and those that there are before it asks.
-pub(crate) const HELPERS: u16 = 8;
+pub const HELPERS: u16 = 8;
 
 #[derive(Clone, Copy)]
 pub enum Line<'a> {

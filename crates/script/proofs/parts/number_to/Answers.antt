@@ -1,6 +1,6 @@
 use borrow.Author.Needs.{needs}
-use Rattle.rehearsal.specs.Parts.{isTo, numberIn}
-use Rattle.rehearsal.proofs.parts.number_to.Needs as need
+use Rattle.script.specs.Parts.{isTo, numberIn}
+use Rattle.script.proofs.parts.number_to.Needs as need
 
 pub returns-in-Break-n : need.returns-in-Break-n
 unfolding isTo numberIn

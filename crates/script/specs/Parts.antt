@@ -8,7 +8,7 @@ use lib.ListN.{length, getD, take}
 use Rattle.text.specs.Decimal.{isNumber, value}
 use Rattle.coins.specs.declared.ids.LetterId.{LetterId}
 use Rattle.coins.specs.declared.ids.NodeId.{NodeId}
-use Rattle.rehearsal.specs.Words.{hasWord, wordOf, restOf, same}
+use Rattle.script.specs.Words.{hasWord, wordOf, restOf, same}
 
 -- a word is a number that is at most so much
 unfoldable pub isTo : ℕ → List ℕ → Bool

@@ -5,9 +5,9 @@ use mathlib.Core.Bool.{true, false}
 use mathlib.Core.List.{List}
 use lib.ListN.{length, getD, take, drop}
 use Rattle.std.proofs.shelf.Sums.{leading-drop-yes, leading-drop-no, leading-drop-all}
-use Rattle.rehearsal.specs.declared.words.Class.{Class}
-use Rattle.rehearsal.specs.declared.words.Class.the-variants.{Blank, Ink}
-use Rattle.rehearsal.specs.Words.{isOf, front, wordOf, restOf}
+use Rattle.script.specs.declared.words.Class.{Class}
+use Rattle.script.specs.declared.words.Class.the-variants.{Blank, Ink}
+use Rattle.script.specs.Words.{isOf, front, wordOf, restOf}
 
 pub front-yes : (class : Class) (text : List ℕ) (i : ℕ) → i < length text → isOf class (getD text i 0) ≡ true → front class (drop i text) ≡ 1 + front class (drop (i + 1) text)
 unfolding front

@@ -1,7 +1,7 @@
 use Rattle.std.proofs.shelf.Equals.{matches-decides, sameBytes-decides}
 use Rattle.std.proofs.shelf.Ways.{same-from-decides}
-use Rattle.rehearsal.specs.Words.{same}
-use Rattle.rehearsal.proofs.words.is.Needs as need
+use Rattle.script.specs.Words.{same}
+use Rattle.script.proofs.words.is.Needs as need
 
 pub returns : need.returns
 unfolding same

@@ -1,6 +1,6 @@
 use borrow.Author.Needs.{needs}
-use Rattle.rehearsal.specs.Words.{codeOf}
-use Rattle.rehearsal.proofs.words.code.Needs as need
+use Rattle.script.specs.Words.{codeOf}
+use Rattle.script.proofs.words.code.Needs as need
 
 pub returns : need.returns
 unfolding codeOf

@@ -1,7 +1,7 @@
 use native.Mathlib.Omega.{arith}
 use mathlib.Core.Path.{sym}
-use Rattle.rehearsal.proofs.Fronts.{front-yes, front-no, front-all}
-use Rattle.rehearsal.proofs.words.leading.Needs as need
+use Rattle.script.proofs.Fronts.{front-yes, front-no, front-all}
+use Rattle.script.proofs.words.leading.Needs as need
 
 pub returns-then-not-has : need.returns-then-not-has
 returns-then-not-has c =

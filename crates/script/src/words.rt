@@ -4,7 +4,7 @@ ghost use mathlib.Core.Bool.{true, false};
 ghost use Prim.Native.Nat.{_≤_};
 ghost use lib.ListN.{length};
 ghost use Rattle.std.specs.Options.{Cases as BySome};
-ghost use Rattle.rehearsal.specs.Words.{isOf, front, codeOf, hasWord, wordOf, restOf, same};
+ghost use Rattle.script.specs.Words.{isOf, front, codeOf, hasWord, wordOf, restOf, same};
 
 // Kinds of bytes.
 #[derive(Clone, Copy)]

@@ -1,5 +1,5 @@
 // Reads a line.
-ghost use Rattle.rehearsal.specs.Lines.{Reads, isGive, give as giveIn, isSay, say as sayIn, share as shareIn, rest as restIn, isBossLine, bossLine, isHelperLine, helperLine, isPass, pass as passIn, isNew, afresh as newIn, canBegin, begin as beginIn, isLine, lineIn};
+ghost use Rattle.script.specs.Lines.{Reads, isGive, give as giveIn, isSay, say as sayIn, share as shareIn, rest as restIn, isBossLine, bossLine, isHelperLine, helperLine, isPass, pass as passIn, isNew, afresh as newIn, canBegin, begin as beginIn, isLine, lineIn};
 use crate::line::HELPERS;
 use crate::line::Line;
 use crate::parts::end;
@@ -143,7 +143,7 @@ fn begin<'a>(first: &'a [u8], text: &'a [u8]) -> Option<Line<'a>>
 }
 
 // What a line asks for, if it can be read.
-pub(crate) fn read(line: &[u8]) -> Option<Line<'_>>
+pub fn read(line: &[u8]) -> Option<Line<'_>>
     ensures { λ r. ⌜ Reads r (isLine (now (line .entry))) (lineIn (now (line .entry))) ⌝ }
 {
     let Some((first, text)) = split(code(line)) else {

@@ -10,10 +10,10 @@ use Rattle.std.specs.declared.option.Option.the-variants.{Some, None}
 use Rattle.coins.specs.declared.ids.NodeId.{NodeId}
 use Rattle.stage.specs.declared.command.Command.{Command}
 use Rattle.stage.specs.declared.command.Command.the-variants.{Give, Share, Rest, Say, Pass}
-use Rattle.rehearsal.specs.declared.line.Line.{Line}
-use Rattle.rehearsal.specs.declared.line.Line.the-variants.{Empty, Play, Settle, Show, New}
-use Rattle.rehearsal.specs.Words.{codeOf, hasWord, wordOf, restOf, same}
-use Rattle.rehearsal.specs.Parts.{isTo, numberIn, isLetter, letterIn, nodeNamed, isHelper, helperIn, isNode, nodeIn, nameOf, isSpeaker, isWork, workIn}
+use Rattle.script.specs.declared.line.Line.{Line}
+use Rattle.script.specs.declared.line.Line.the-variants.{Empty, Play, Settle, Show, New}
+use Rattle.script.specs.Words.{codeOf, hasWord, wordOf, restOf, same}
+use Rattle.script.specs.Parts.{isTo, numberIn, isLetter, letterIn, nodeNamed, isHelper, helperIn, isNode, nodeIn, nameOf, isSpeaker, isWork, workIn}
 
 -- what a line asks for, with the bytes of its last word
 pub data Plan : Type 0 where

@@ -1,9 +1,9 @@
 use mathlib.Core.Path.{_≡_}
 use mathlib.Core.Bool.{true}
 use borrow.Author.Needs.{needs}
-use Rattle.rehearsal.specs.Words.{hasWord}
-use Rattle.rehearsal.proofs.Fronts.{words-from}
-use Rattle.rehearsal.proofs.words.split.Needs as need
+use Rattle.script.specs.Words.{hasWord}
+use Rattle.script.proofs.Fronts.{words-from}
+use Rattle.script.proofs.words.split.Needs as need
 
 pub returns : need.returns
 unfolding hasWord

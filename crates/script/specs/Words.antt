@@ -6,8 +6,8 @@ use lib.Dec.{eqb, ltb}
 use lib.ListN.{length, take, drop}
 use Rattle.std.specs.shelf.Lists.{leading}
 use Rattle.std.specs.shelf.Text.{sameBytes}
-use Rattle.rehearsal.specs.declared.words.Class.{Class}
-use Rattle.rehearsal.specs.declared.words.Class.the-variants.{Code, Blank, Ink}
+use Rattle.script.specs.declared.words.Class.{Class}
+use Rattle.script.specs.declared.words.Class.the-variants.{Code, Blank, Ink}
 
 -- a comment begins with # (35), and a line ends with 10; words are separated by spaces (32) and tabs (9)
 abbrev pub isOf : Class → ℕ → Bool
