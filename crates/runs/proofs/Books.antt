@@ -15,7 +15,7 @@ use Rattle.coins.specs.Limits.{grant}
 use Rattle.coins.specs.Letters.{seek, place}
 use Rattle.coins.specs.Bosses.{newBoss, isOpen, givenOf, backOf, granted, entered}
 use Rattle.runs.specs.Letter.{isDone}
-use Rattle.runs.proofs.Tables.{by-test, seek-at, seek-out, seek-set-other, Apart, seek-set-gone, Fits, seek-fits, apart-set, apart-fits, place-seek, placed}
+use Rattle.runs.proofs.Tables.{by-test, seek-at, seek-out, seek-set-other, Apart, seek-set-gone, Fits, seek-fits, apart-set, apart-fits, place-seek, placed, and-true, and-false}
 
 -- A table in order; no open letter is above the highest.
 pub record Tidy (b : Boss) : Type 0 where
@@ -46,14 +46,6 @@ pub record Booked (n : ℕ) (live done : Bool) (given back : ℕ) (b c : Boss) :
   pub given-same : (m : ℕ) → 1 ≤ m → (m ≡ n → ⊥) → givenOf c m ≡ givenOf b m
   pub back-same : (m : ℕ) → 1 ≤ m → (m ≡ n → ⊥) → backOf c m ≡ backOf b m
   pub done-same : (m : ℕ) → 1 ≤ m → (m ≡ n → ⊥) → (isDone c m ≡ isDone b m) ⊎ ((isOpen b m ≡ false) × (isDone c m ≡ true))
-
-and-false : (x : Bool) → x && false ≡ false
-and-false true = refl
-and-false false = refl
-
-and-true : (x : Bool) → x && true ≡ x
-and-true true = refl
-and-true false = refl
 
 pub not-done : (b : Boss) (n : ℕ) → isOpen b n ≡ true → isDone b n ≡ false
 not-done b n e = rw e (and-false (leb n (b .highest)))

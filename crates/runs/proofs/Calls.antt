@@ -25,7 +25,7 @@ use Rattle.coins.specs.Helpers.{Called, Flushed, at, write, shareAt, shareStep,
 use Rattle.runs.specs.System.{noHelper, World, helperAt, helperDid}
 use Rattle.runs.specs.Letter.{view, holdingsOf, postOf, holdingAt}
 use Rattle.runs.specs.Moves.{nowHas}
-use Rattle.runs.proofs.Tables.{by-test, placed, seek-apart}
+use Rattle.runs.proofs.Tables.{by-test, placed, seek-apart, both-true, positive}
 use Rattle.runs.proofs.Holders.{Tidy, Changed, held-at, own, own-holding, stored, cleared}
 use Rattle.runs.proofs.Views.{held-get, held-length, send-own, send-other}
 use Rattle.runs.proofs.Turns.{Order, Turn, Did, nothing-did, helper-did, turn-shares, turn-asks, turn-rests, turn-flushes}
@@ -39,10 +39,6 @@ waiting-at (x ∷ xs) h =
 
 waits-coins : (x : Holding) → waits x ≡ true → 1 ≤ x .coins
 waits-coins x e = grind (arith, tells)
-
-both-true : (a b : Bool) → a && b ≡ true → a ≡ true
-both-true true b e = refl
-both-true false b e = e
 
 module _ (w : World) (O : Order w) (i : ℕ) (lt : i < length (w .helpers)) where
   abbrev who : Helper
@@ -139,7 +135,7 @@ module _ (w : World) (O : Order w) (i : ℕ) (lt : i < length (w .helpers)) wher
   pub flush-did : (boss : ℕ) →
       Did (getD (helperAt (w .helpers) i .letters) (seekWaiting (helperAt (w .helpers) i .holdings)) 0) false 0 w (helperDid w i (flushStep (helperAt (w .helpers) i) boss .helper) (flushStep (helperAt (w .helpers) i) boss .post))
   flush-did boss =
-      by-test (λ (d : Flushed). Did n false 0 w (helperDid w i (d .helper) (d .post))) (ltb k 64 && not (eqb boss 0)) _ _ (λ t. go (ltb-true k 64 (both-true _ _ t))) (λ _. idles n)
+      by-test (λ (d : Flushed). Did n false 0 w (helperDid w i (d .helper) (d .post))) (ltb k 64 && not (eqb boss 0)) _ _ (λ t. go (ltb-true k 64 (both-true _ _ t .0))) (λ _. idles n)
     where
       k : ℕ
       k = seekWaiting (who .holdings)
@@ -155,6 +151,3 @@ module _ (w : World) (O : Order w) (i : ℕ) (lt : i < length (w .helpers)) wher
           let e : holdingAt (holdingsOf n (w .helpers)) i ≡ at (who .holdings) k = held-get n (w .helpers) i lt ∙ held-at i who n tidy pos ∙ ap (λ (j : ℕ). at (who .holdings) j) (seek-apart (who .letters) n k (tidy .apart) (omega (arith, tidy .letters)) refl pos) in
           sends (record { sender = who .me; receiver = record { number = bossNumber }; letter = record { number = n }; kind = Back (at (who .holdings) k .coins) }) idle (write who k 0 idle) pos (cleared i who tidy k n l pos refl)
           (turn-flushes (view n w) _ i (at (who .holdings) k) e wt (in-view n, tidy .named, refl, refl))
-        where
-          positive : (x : ℕ) → (x ≡ 0 → ⊥) → 1 ≤ x
-          positive x f = omega arith

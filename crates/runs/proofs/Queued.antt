@@ -27,15 +27,16 @@ none-before (m ∷ ms) s r (suc k) e = go (onLine s r m) refl (λ h. none-before
     go true f rest = absurd (let z : 0 ≡ suc k = rw f at e in omega arith)
     go false f rest = let z : suc (head ms s r) ≡ suc k = rw f at e in rw f (rest (omega arith))
 
+-- a node is its number
+pub same-node : (x y : NodeId) → x .number ≡ y .number → x ≡ y
+same-node x y q = let z : _≡_ {A = NodeId} (record { number = x .number }) (record { number = y .number }) = cc in z
+
 -- who sends and receives on a line are those of a message on it
 same-line : (s r : NodeId) (m : Mail) → onLine s r m ≡ true → (s ≡ m .sender) × (r ≡ m .receiver)
 same-line s r m e =
     let a : m .sender .number ≡ s .number = grind (arith, tells) in
     let b : m .receiver .number ≡ r .number = grind (arith, tells) in
-    (same s (m .sender) (sym a), same r (m .receiver) (sym b))
-  where
-    same : (x y : NodeId) → x .number ≡ y .number → x ≡ y
-    same x y q = let z : _≡_ {A = NodeId} (record { number = x .number }) (record { number = y .number }) = cc in z
+    (same-node s (m .sender) (sym a), same-node r (m .receiver) (sym b))
 
 pub lines-are-queues : LinesAreQueues
 unfolding queue

@@ -2,7 +2,7 @@
 use Prim.Native.Nat.{ℕ, zero, suc, _<_, _≤_}
 use mathlib.Core.Path.{_≡_, refl, sym, ap, _∙_}
 use mathlib.Core.Logic.{_⊎_, inl, inr}
-use mathlib.Core.Bool.{Bool, true, false, cond}
+use mathlib.Core.Bool.{Bool, true, false, cond, _&&_}
 use mathlib.Core.List.{List, [], _∷_}
 use native.Mathlib.Omega.{arith}
 use lib.Dec.{eqb}
@@ -16,6 +16,21 @@ use Rattle.coins.specs.Letters.{seek, place}
 pub by-test : {X : Type 0} (P : X → Type 0) (b : Bool) (x y : X) → (b ≡ true → P x) → (b ≡ false → P y) → P (cond b x y)
 by-test P true x y f g = f refl
 by-test P false x y f g = g refl
+
+pub and-true : (x : Bool) → x && true ≡ x
+and-true true = refl
+and-true false = refl
+
+pub and-false : (x : Bool) → x && false ≡ false
+and-false true = refl
+and-false false = refl
+
+pub both-true : (a b : Bool) → a && b ≡ true → (a ≡ true) × (b ≡ true)
+both-true true b e = (refl, e)
+both-true false b e = absurd (let z : _≡_ {A = ℕ} 0 1 = cc in omega arith)
+
+pub positive : (x : ℕ) → (x ≡ 0 → ⊥) → 1 ≤ x
+positive x f = omega arith
 
 pub seek-le : (xs : List ℕ) (n : ℕ) → seek xs n ≤ length xs
 unfolding seek

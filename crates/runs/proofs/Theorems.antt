@@ -29,7 +29,7 @@ use Rattle.coins.specs.declared.mail.Taking.{Taking}
 use Rattle.coins.specs.declared.mail.Taking.the-variants.{Took, Later, Refused}
 use Rattle.runs.specs.Promise.{Laden, Taken, Welcome, Promised, Promise, DoneStays, StepsAreMoves, about, LettersApart, OnlyWorkWakes, isGive, arrivals, Ungiven, QuietGoesOn, QuietIsShort, QuietIsSaid}
 use Rattle.runs.specs.Promise as promise
-use Rattle.runs.proofs.Tables.{by-test}
+use Rattle.runs.proofs.Tables.{by-test, and-true, and-false}
 use Rattle.runs.proofs.Counts.{clash}
 use Rattle.runs.proofs.Rules.{FineKind, stays, sound, wakes}
 use Rattle.runs.proofs.Quiets.{quiet-on, quiet-back, short}
@@ -126,14 +126,6 @@ are-arrivals n (rests w i letter boss l) = by-test (λ x. 0 ≡ x) (eqb (letter 
 are-arrivals n (flushes w i boss l) = by-test (λ x. 0 ≡ x) (eqb (about (flushes w i boss l)) n) 0 0 (λ _. refl) (λ _. refl)
 are-arrivals n (comes w k i boss h p f r l e) = refl
 are-arrivals n (returns w k room b p f r e) = refl
-
-and-true : (x : Bool) → x && true ≡ x
-and-true true = refl
-and-true false = refl
-
-and-false : (x : Bool) → x && false ≡ false
-and-false true = refl
-and-false false = refl
 
 see : {w v : World} (s : Step w v) → Whole w → (n : ℕ) → 1 ≤ n → Turn (isGive n s) (arrivals n s) (view n w) (view n v) ⊎ ((view n v ≡ view n w) × (arrivals n s ≡ 0))
 see {w} {v} s W n pos =

@@ -26,7 +26,7 @@ use Rattle.coins.specs.Bosses.{Took-in as BossTook}
 use Rattle.runs.specs.System.{World, helperAt, mailAt, noMail}
 use Rattle.runs.specs.Letter.{view, holdingsOf, postOf, holdingAt}
 use Rattle.runs.specs.Promise.{Taken, Welcome}
-use Rattle.runs.proofs.Tables.{by-test, seek-at, seek-before, seek-apart, place-seek, pigeons}
+use Rattle.runs.proofs.Tables.{by-test, seek-at, seek-before, seek-apart, place-seek, pigeons, positive}
 use Rattle.runs.proofs.Holders.{held-at}
 use Rattle.runs.proofs.Holders as holder
 use Rattle.runs.proofs.Books.{open-is, own-given, own-back}
@@ -111,9 +111,6 @@ module _ (w : World) (W : Whole w) where
               (λ j lj e. seek-before (who .letters) n j (omega (arith, ltb-false _ _ f, place-seek (who .letters) n (letter-pos w W k l))) e))
           | inr s ↦ s .1
         ])
-      where
-        positive : (x : ℕ) → (x ≡ 0 → ⊥) → 1 ≤ x
-        positive x f = omega arith
 
     fits : (c : ℕ) → coinsIn (mailAt (w .post) k .kind) ≡ c → counts (holdingOf (helperAt (w .helpers) i) (mailAt (w .post) k .letter .number)) c ≡ true
     fits c e =

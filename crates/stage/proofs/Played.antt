@@ -36,8 +36,9 @@ use Rattle.coins.specs.Bosses.{Called as BossCalled, Took-in as BossTook}
 use Rattle.runs.specs.System.{World, helperAt, mailAt, head, onLine, First, sent, Step, gives, says, shares, rests, flushes, comes, returns, Reach, then, Runs, onward}
 use Rattle.runs.specs.Letter.{isDone}
 use Rattle.runs.specs.Promise.{Promised, Taken, Welcome, isGive}
-use Rattle.runs.proofs.Tables.{by-test, placed}
+use Rattle.runs.proofs.Tables.{by-test, placed, both-true}
 use Rattle.runs.proofs.Books.{closed}
+use Rattle.runs.proofs.Queued.{same-node}
 use Rattle.runs.proofs.Always.{always}
 use Rattle.runs.proofs.Theorems.{promised-of}
 use Rattle.stage.specs.declared.work.Work.{Work}
@@ -51,7 +52,7 @@ use Rattle.stage.specs.Scenes.{Scene, mails, world, parcelOf, sentOn, room}
 use Rattle.stage.specs.Plays.{Out, bossId, refuse, bossDid, helperDid, playGive, playSay, playShare, playRest, playFlush, taken, toHelper, toBoss, playPass, plays, lacks, Outcome, Onward, Said}
 use Rattle.stage.proofs.Looks.{mails-length}
 
-clash : {P : Type 0} → _≡_ {A = ℕ} 0 1 → P
+pub clash : {P : Type 0} → _≡_ {A = ℕ} 0 1 → P
 clash z = absurd (omega arith)
 
 -- the messages of a scene after a step
@@ -70,13 +71,6 @@ unfolding head
 at-head [] s r l = absurd (omega arith)
 at-head (m ∷ ms) s r l =
     by-test (λ (k : ℕ). k < suc (length ms) → onLine s r (mailAt (m ∷ ms) k) ≡ true) (onLine s r m) 0 (suc (head ms s r)) (λ e _. e) (λ _ h. at-head ms s r (omega arith)) l
-
-both-true : (a b : Bool) → a && b ≡ true → (a ≡ true) × (b ≡ true)
-both-true true b e = (refl, e)
-both-true false b e = (e, clash (cc))
-
-same-node : (x y : NodeId) → x .number ≡ y .number → x ≡ y
-same-node x y q = let z : _≡_ {A = NodeId} (record { number = x .number }) (record { number = y .number }) = cc in z
 
 pub is-first : (ms : List Mail) (s r : NodeId) → head ms s r < length ms → First ms (head ms s r) × (mailAt ms (head ms s r) .sender ≡ s) × (mailAt ms (head ms s r) .receiver ≡ r)
 is-first ms s r l =

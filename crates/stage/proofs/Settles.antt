@@ -53,11 +53,8 @@ use Rattle.stage.specs.Works.{noWork}
 use Rattle.stage.specs.Scenes.{Scene, mails, world, sentOn, room, seekHelper, seekHolder, load}
 use Rattle.stage.specs.Plays.{Out, bossId, taken, toHelper, toBoss, playPass, playFlush, plays, noMemory, lacks, Outcome, passing, next, Settled, Calmed}
 use Rattle.stage.proofs.Looks.{mails-length}
-use Rattle.stage.proofs.Played.{mails-sent, mails-removed, is-first, isGiver, went}
+use Rattle.stage.proofs.Played.{mails-sent, mails-removed, is-first, isGiver, went, clash}
 use Rattle.stage.proofs.Loads.{weighs, Lighter, Drops, mailed-sent, mailed-removed, arrive-lighter, flush-lighter, receive-lighter, load-helper, load-boss}
-
-clash : {P : Type 0} → _≡_ {A = ℕ} 0 1 → P
-clash z = absurd (omega arith)
 
 -- a message on a line has a first before it
 head-found : (ms : List Mail) (s r : NodeId) (k : ℕ) → k < length ms → onLine s r (mailAt ms k) ≡ true → head ms s r ≤ k
