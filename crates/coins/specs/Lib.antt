@@ -2,6 +2,4 @@ pub mod Limits
 pub mod Refusals
 pub mod Mails
 pub mod Letters
-pub mod Holdings
-pub mod Helpers
-pub mod Bosses
+pub mod Works

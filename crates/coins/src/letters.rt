@@ -9,7 +9,7 @@ use crate::ids::LetterId;
 pub const LETTERS: usize = 64;
 
 // The first place that has this number, or the length where none has. Free places have number 0.
-pub(crate) fn first(numbers: &[u32], number: u32) -> usize
+pub fn first(numbers: &[u32], number: u32) -> usize
     ensures value { λ r. ⌜ r ≡ seek (now (numbers .entry)) number ⌝ }
     ensures within { λ r. ⌜ r ≤ length (now (numbers .entry)) ⌝ }
 {
@@ -22,10 +22,8 @@ pub(crate) fn first(numbers: &[u32], number: u32) -> usize
 }
 
 // The place of a letter, or 64 where it has none.
-pub(crate) fn find(numbers: &[u32], letter: LetterId) -> usize
-    requires { ⌜ length (now numbers) ≡ 64 ⌝ }
-    ensures value { λ r. ⌜ r ≡ place (now (numbers .entry)) (letter .number) ⌝ }
-    ensures within { λ r. ⌜ r ≤ 64 ⌝ }
+pub fn find(numbers: &[u32], letter: LetterId) -> usize
+    ensures { λ r. ⌜ r ≡ place (now (numbers .entry)) (letter .number) ⌝ }
 {
     if letter.number == 0 {
         LETTERS

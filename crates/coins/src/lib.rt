@@ -1,12 +1,7 @@
-// Letters and their coins: what the boss and a helper do with them, one call at a time.
+// Letters, messages and answers: what the boss and the helpers have in common.
 pub mod answer;
-pub mod boss;
-mod counts;
-pub mod helper;
-pub mod holding;
 pub mod ids;
 pub mod letters;
+pub mod limits;
 pub mod mail;
-mod purse;
-#[cfg(test)]
-mod tests;
+pub mod work;

@@ -83,7 +83,7 @@ pub enum Taking {
 }
 
 impl Outcome {
-    pub(crate) fn refused(why: Refusal) -> Outcome
+    pub fn refused(why: Refusal) -> Outcome
         ensures { λ r. ⌜ r ≡ record { answer = Answer.Refused why; post = Post.Nothing } ⌝ }
     {
         Outcome {
@@ -92,7 +92,7 @@ impl Outcome {
         }
     }
 
-    pub(crate) fn fine(post: Post) -> Outcome
+    pub fn fine(post: Post) -> Outcome
         ensures { λ r. ⌜ r ≡ record { answer = Answer.Fine; post = post } ⌝ }
     {
         Outcome {

@@ -10,7 +10,7 @@ use Rattle.text.specs.Hex.{hexOf}
 use Rattle.coins.specs.Mails.{coinsIn}
 use Rattle.coins.specs.declared.ids.LetterId.{LetterId}
 use Rattle.coins.specs.declared.ids.NodeId.{NodeId}
-use Rattle.coins.specs.declared.holding.Holding.{Holding}
+use Rattle.helper_coins.specs.declared.holding.Holding.{Holding}
 use Rattle.coins.specs.declared.mail.Mail.{Mail}
 use Rattle.coins.specs.declared.mail.Kind.{Kind}
 use Rattle.coins.specs.declared.mail.Kind.the-variants.{Work, More, Back, NoMore, Ask}

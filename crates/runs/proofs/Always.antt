@@ -13,10 +13,10 @@ use Rattle.std.proofs.shelf.Tests.{eq-eqb}
 use Rattle.std.proofs.shelf.Ways.{eqb-tells, leb-tells}
 use Rattle.coins.specs.declared.mail.Mail.{Mail}
 use Rattle.coins.specs.declared.mail.Taking.the-variants.{Took}
-use Rattle.coins.specs.declared.helper.Helper.{Helper}
-use Rattle.coins.specs.declared.holding.Holding.{Holding}
-use Rattle.coins.specs.Holdings.{idle}
-use Rattle.coins.specs.Helpers.{newHelper, holdingOf, arriveStep}
+use Rattle.helper_coins.specs.declared.helper.Helper.{Helper}
+use Rattle.helper_coins.specs.declared.holding.Holding.{Holding}
+use Rattle.helper_coins.specs.Holdings.{idle}
+use Rattle.helper_coins.specs.Helpers.{newHelper, holdingOf, arriveStep}
 use Rattle.runs.specs.System.{noHelper, World, crew, start, helperAt, mailAt, noMail, helperDid, without, Step, gives, says, shares, rests, flushes, comes, returns, Reach, begin, then}
 use Rattle.runs.specs.Letter.{View, view, holdingsOf, postOf, holdingAt, underWay}
 use Rattle.runs.specs.Moves.{skips}

@@ -10,10 +10,10 @@ use lib.ListN.{length, getD, set, replicate}
 use Rattle.std.proofs.shelf.Lists.{length-set, getD-set-same, getD-set-other, getD-past, set-getD, getD-replicate}
 use Rattle.std.proofs.shelf.Ways.{tells, eqb-tells, leb-tells}
 use borrow.Author.Tests.{ltb-false, lt-ltb, le-ltb}
-use Rattle.coins.specs.declared.boss.Boss.{Boss}
+use Rattle.boss_coins.specs.declared.boss.Boss.{Boss}
 use Rattle.coins.specs.Limits.{grant}
 use Rattle.coins.specs.Letters.{seek, place}
-use Rattle.coins.specs.Bosses.{newBoss, isOpen, givenOf, backOf, granted, entered}
+use Rattle.boss_coins.specs.Bosses.{newBoss, isOpen, givenOf, backOf, granted, entered}
 use Rattle.runs.specs.Letter.{isDone}
 use Rattle.runs.proofs.Tables.{by-test, seek-at, seek-out, seek-set-other, Apart, seek-set-gone, Fits, seek-fits, apart-set, apart-fits, place-seek, placed, and-true, and-false}
 

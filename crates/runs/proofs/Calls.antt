@@ -16,12 +16,12 @@ use Rattle.coins.specs.declared.ids.NodeId.{NodeId}
 use Rattle.coins.specs.declared.mail.Kind.the-variants.{Back}
 use Rattle.coins.specs.declared.mail.Mail.{Mail}
 use Rattle.coins.specs.declared.mail.Post.the-variants.{Nothing, Send}
-use Rattle.coins.specs.declared.helper.Helper.{Helper}
-use Rattle.coins.specs.declared.holding.Holding.{Holding}
+use Rattle.helper_coins.specs.declared.helper.Helper.{Helper}
+use Rattle.helper_coins.specs.declared.holding.Holding.{Holding}
 use Rattle.coins.specs.Limits.{bossNumber}
 use Rattle.coins.specs.Letters.{place}
-use Rattle.coins.specs.Holdings.{idle, kept, waiting, waits}
-use Rattle.coins.specs.Helpers.{Called, Flushed, at, write, shareAt, shareStep, restStep, seekWaiting, flushStep}
+use Rattle.helper_coins.specs.Holdings.{idle, kept, waiting, waits}
+use Rattle.helper_coins.specs.Helpers.{Called, Flushed, at, write, shareAt, shareStep, restStep, seekWaiting, flushStep}
 use Rattle.runs.specs.System.{noHelper, World, helperAt, helperDid}
 use Rattle.runs.specs.Letter.{view, holdingsOf, postOf, holdingAt}
 use Rattle.runs.specs.Moves.{nowHas}

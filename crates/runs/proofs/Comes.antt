@@ -19,11 +19,11 @@ use Rattle.coins.specs.declared.mail.Post.{Post}
 use Rattle.coins.specs.declared.mail.Post.the-variants.{Nothing, Send}
 use Rattle.coins.specs.declared.mail.Taking.{Taking}
 use Rattle.coins.specs.declared.mail.Taking.the-variants.{Took, Later, Refused}
-use Rattle.coins.specs.declared.helper.Helper.{Helper}
-use Rattle.coins.specs.declared.holding.Holding.{Holding}
+use Rattle.helper_coins.specs.declared.helper.Helper.{Helper}
+use Rattle.helper_coins.specs.declared.holding.Holding.{Holding}
 use Rattle.coins.specs.Letters.{place}
-use Rattle.coins.specs.Holdings.{idle, took, answered}
-use Rattle.coins.specs.Helpers.{Took-in, at, holdingOf, slotFor, store, clear, counts, workStep, moreStep, noMoreAt, noMoreStep, arriveStep}
+use Rattle.helper_coins.specs.Holdings.{idle, took, answered}
+use Rattle.helper_coins.specs.Helpers.{Took-in, at, holdingOf, slotFor, store, clear, counts, workStep, moreStep, noMoreAt, noMoreStep, arriveStep}
 use Rattle.runs.specs.System.{World, helperAt, mailAt, noMail, helperDid, without}
 use Rattle.runs.specs.Letter.{view, isOf, holdingsOf, postOf, holdingAt}
 use Rattle.runs.specs.Moves.{nowHas}

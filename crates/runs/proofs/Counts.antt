@@ -11,9 +11,9 @@ use Rattle.std.proofs.shelf.Lists.{append-nil}
 use Rattle.std.proofs.shelf.Sums.{sumBy-cons, sumBy-set, getD-le-sumBy}
 use Rattle.coins.specs.declared.mail.Kind.{Kind}
 use Rattle.coins.specs.declared.mail.Mail.{Mail}
-use Rattle.coins.specs.declared.holding.Holding.{Holding}
+use Rattle.helper_coins.specs.declared.holding.Holding.{Holding}
 use Rattle.coins.specs.Mails.{coinsIn}
-use Rattle.coins.specs.Holdings.{idle}
+use Rattle.helper_coins.specs.Holdings.{idle}
 use Rattle.runs.specs.System.{mailAt}
 use Rattle.runs.specs.Letter.{holdingAt, held, underWay, weigh, delay, mailed, delayed}
 

@@ -20,10 +20,10 @@ use Rattle.coins.specs.declared.mail.Post.{Post}
 use Rattle.coins.specs.declared.mail.Post.the-variants.{Nothing, Send}
 use Rattle.coins.specs.declared.mail.Taking.{Taking}
 use Rattle.coins.specs.declared.mail.Taking.the-variants.{Took, Later, Refused}
-use Rattle.coins.specs.declared.boss.Boss.{Boss}
+use Rattle.boss_coins.specs.declared.boss.Boss.{Boss}
 use Rattle.coins.specs.Limits.{grant, limit, bossNumber}
 use Rattle.coins.specs.Letters.{seek, place}
-use Rattle.coins.specs.Bosses.{Called, Took-in, isOpen, givenOf, backOf, giveOpen, giveNew, giveStep, sayStep, backStep, askStep, receiveStep}
+use Rattle.boss_coins.specs.Bosses.{Called, Took-in, isOpen, givenOf, backOf, giveOpen, giveNew, giveStep, sayStep, backStep, askStep, receiveStep}
 use Rattle.runs.specs.System.{World, mailAt, noMail, bossDid, without}
 use Rattle.runs.specs.Letter.{view, isOf, isDone, holdingsOf, postOf}
 use Rattle.runs.specs.Moves.{ToBoss, gives, grants, denies, returns, says}

@@ -9,11 +9,11 @@ use lib.ListN.{length, getD, set, replicate}
 use Rattle.std.proofs.shelf.Lists.{length-set, getD-set-same, getD-set-other, getD-past, set-getD, getD-replicate}
 use Rattle.std.proofs.shelf.Ways.{eqb-tells}
 use borrow.Author.Tests.{ltb-true, ltb-false}
-use Rattle.coins.specs.declared.holding.Holding.{Holding}
-use Rattle.coins.specs.declared.helper.Helper.{Helper}
+use Rattle.helper_coins.specs.declared.holding.Holding.{Holding}
+use Rattle.helper_coins.specs.declared.helper.Helper.{Helper}
 use Rattle.coins.specs.Letters.{seek, place}
-use Rattle.coins.specs.Holdings.{idle}
-use Rattle.coins.specs.Helpers.{newHelper, at, holdingOf, slotFor, write, store}
+use Rattle.helper_coins.specs.Holdings.{idle}
+use Rattle.helper_coins.specs.Helpers.{newHelper, at, holdingOf, slotFor, write, store}
 use Rattle.runs.proofs.Tables.{by-test, seek-le, seek-at, seek-out, seek-set-other, Apart, seek-set-gone, Fits, seek-fits, apart-set, apart-fits, fits-other, place-seek, placed}
 
 -- A table in order. A place is a letter's only while there are coins in it.

@@ -12,8 +12,8 @@ use Rattle.std.proofs.shelf.Ways.{tells}
 use Rattle.coins.specs.declared.mail.Kind.{Kind}
 use Rattle.coins.specs.declared.mail.Kind.the-variants.{Work, More, Back, NoMore, Ask}
 use Rattle.coins.specs.declared.mail.Mail.{Mail}
-use Rattle.coins.specs.declared.holding.Holding.{Holding}
-use Rattle.coins.specs.Holdings.{idle, waits, answered}
+use Rattle.helper_coins.specs.declared.holding.Holding.{Holding}
+use Rattle.helper_coins.specs.Holdings.{idle, waits, answered}
 use Rattle.runs.specs.System.{noMail}
 use Rattle.runs.specs.Letter.{View, holdingAt, isWork, Quiet, underWay, weigh, delay, mailed, delayed, toCome}
 use Rattle.runs.specs.Moves.{Move, nowHas, gives, takes, shares, asks, rests, flushes, keeps, declines, hears, grants, denies, returns, says, skips, isGiving, coming}

@@ -20,9 +20,9 @@ use Rattle.coins.specs.declared.mail.Kind.the-variants.{Work, More, Back, NoMor
 use Rattle.coins.specs.declared.mail.Mail.{Mail}
 use Rattle.coins.specs.Limits.{bossNumber}
 use Rattle.coins.specs.Letters.{place}
-use Rattle.coins.specs.Helpers.{arriveStep}
-use Rattle.coins.specs.Bosses.{isOpen, sayStep}
-use Rattle.coins.specs.Bosses.{Called as BossCalled}
+use Rattle.helper_coins.specs.Helpers.{arriveStep}
+use Rattle.boss_coins.specs.Bosses.{isOpen, sayStep}
+use Rattle.boss_coins.specs.Bosses.{Called as BossCalled}
 use Rattle.runs.specs.System.{World, helperAt, mailAt, noMail, Step, gives, says, shares, rests, flushes, comes, returns, Reach, then, Runs, still, onward}
 use Rattle.runs.specs.Letter.{View, view, isDone, isOf, isWork, postOf, holdingAt, Quiet, toCome}
 use Rattle.coins.specs.declared.mail.Taking.{Taking}

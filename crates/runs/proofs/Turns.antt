@@ -11,10 +11,10 @@ use Rattle.std.proofs.shelf.Lists.{length-set, getD-set-same, getD-set-other}
 use Rattle.std.proofs.shelf.Ways.{eqb-tells}
 use Rattle.coins.specs.declared.mail.Kind.the-variants.{Work, More, Back, NoMore, Ask}
 use Rattle.coins.specs.declared.mail.Mail.{Mail}
-use Rattle.coins.specs.declared.helper.Helper.{Helper}
-use Rattle.coins.specs.declared.holding.Holding.{Holding}
-use Rattle.coins.specs.declared.boss.Boss.{Boss}
-use Rattle.coins.specs.Holdings.{idle, took, kept, waiting, answered, waits}
+use Rattle.helper_coins.specs.declared.helper.Helper.{Helper}
+use Rattle.helper_coins.specs.declared.holding.Holding.{Holding}
+use Rattle.boss_coins.specs.declared.boss.Boss.{Boss}
+use Rattle.helper_coins.specs.Holdings.{idle, took, kept, waiting, answered, waits}
 use Rattle.runs.specs.System.{noHelper, World, helperAt}
 use Rattle.runs.specs.Letter.{View, view, holdingsOf, postOf, holdingAt}
 use Rattle.runs.specs.Moves.{ToHelper, ToBoss, nowHas, Move, takes, shares, asks, rests, flushes, keeps, declines, hears, isGiving, coming}

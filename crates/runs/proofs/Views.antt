@@ -10,10 +10,10 @@ use Rattle.std.specs.shelf.Lists.{All}
 use Rattle.std.proofs.shelf.Lists.{length-map, map-set, getD-map, set-getD, take-append-drop, drop-more, append-nil}
 use Rattle.std.proofs.shelf.Elements.{kept-by-append, all-append, all-take, all-drop}
 use Rattle.coins.specs.declared.mail.Mail.{Mail}
-use Rattle.coins.specs.declared.helper.Helper.{Helper}
-use Rattle.coins.specs.declared.holding.Holding.{Holding}
-use Rattle.coins.specs.Holdings.{idle}
-use Rattle.coins.specs.Helpers.{holdingOf}
+use Rattle.helper_coins.specs.declared.helper.Helper.{Helper}
+use Rattle.helper_coins.specs.declared.holding.Holding.{Holding}
+use Rattle.helper_coins.specs.Holdings.{idle}
+use Rattle.helper_coins.specs.Helpers.{holdingOf}
 use Rattle.runs.specs.System.{noHelper, helperAt, mailAt, noMail}
 use Rattle.runs.specs.Letter.{View, isOf, holdingsOf, postOf, holdingAt}
 

@@ -14,15 +14,15 @@ use borrow.Author.Tests.{ltb-true, ltb-false}
 use Rattle.coins.specs.declared.mail.Kind.{Kind}
 use Rattle.coins.specs.declared.mail.Kind.the-variants.{Work, More, Back, NoMore, Ask}
 use Rattle.coins.specs.declared.mail.Mail.{Mail}
-use Rattle.coins.specs.declared.helper.Helper.{Helper}
-use Rattle.coins.specs.declared.holding.Holding.{Holding}
+use Rattle.helper_coins.specs.declared.helper.Helper.{Helper}
+use Rattle.helper_coins.specs.declared.holding.Holding.{Holding}
 use Rattle.coins.specs.Limits.{grant, limit, bossNumber}
 use Rattle.coins.specs.Mails.{coinsIn}
 use Rattle.coins.specs.Letters.{seek, place}
-use Rattle.coins.specs.Helpers.{at, holdingOf, slotFor, counts, workStep, moreStep, arriveStep}
-use Rattle.coins.specs.Helpers.{Took-in as HelperTook}
-use Rattle.coins.specs.Bosses.{isOpen, backStep, askStep, receiveStep}
-use Rattle.coins.specs.Bosses.{Took-in as BossTook}
+use Rattle.helper_coins.specs.Helpers.{at, holdingOf, slotFor, counts, workStep, moreStep, arriveStep}
+use Rattle.helper_coins.specs.Helpers.{Took-in as HelperTook}
+use Rattle.boss_coins.specs.Bosses.{isOpen, backStep, askStep, receiveStep}
+use Rattle.boss_coins.specs.Bosses.{Took-in as BossTook}
 use Rattle.runs.specs.System.{World, helperAt, mailAt, noMail}
 use Rattle.runs.specs.Letter.{view, holdingsOf, postOf, holdingAt}
 use Rattle.runs.specs.Promise.{Taken, Welcome}

@@ -9,13 +9,13 @@ use Rattle.std.specs.shelf.Lists.{sumBy, All, kept-by}
 use Rattle.coins.specs.declared.mail.Kind.{Kind}
 use Rattle.coins.specs.declared.mail.Kind.the-variants.{Work, More, Back, NoMore, Ask}
 use Rattle.coins.specs.declared.mail.Mail.{Mail}
-use Rattle.coins.specs.declared.helper.Helper.{Helper}
-use Rattle.coins.specs.declared.holding.Holding.{Holding}
-use Rattle.coins.specs.declared.boss.Boss.{Boss}
+use Rattle.helper_coins.specs.declared.helper.Helper.{Helper}
+use Rattle.helper_coins.specs.declared.holding.Holding.{Holding}
+use Rattle.boss_coins.specs.declared.boss.Boss.{Boss}
 use Rattle.coins.specs.Mails.{coinsIn}
-use Rattle.coins.specs.Holdings.{idle, waits}
-use Rattle.coins.specs.Helpers.{holdingOf}
-use Rattle.coins.specs.Bosses.{isOpen, givenOf, backOf}
+use Rattle.helper_coins.specs.Holdings.{idle, waits}
+use Rattle.helper_coins.specs.Helpers.{holdingOf}
+use Rattle.boss_coins.specs.Bosses.{isOpen, givenOf, backOf}
 use Rattle.runs.specs.System.{World}
 
 -- A letter is done when its number is not above the highest that was opened, and it is not open: the boss has said

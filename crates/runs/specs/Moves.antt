@@ -7,9 +7,9 @@ use lib.ListN.{length, set}
 use Rattle.coins.specs.declared.mail.Kind.{Kind}
 use Rattle.coins.specs.declared.mail.Kind.the-variants.{Work, More, Back, NoMore, Ask}
 use Rattle.coins.specs.declared.mail.Mail.{Mail}
-use Rattle.coins.specs.declared.holding.Holding.{Holding}
+use Rattle.helper_coins.specs.declared.holding.Holding.{Holding}
 use Rattle.coins.specs.Limits.{grant, limit, bossNumber}
-use Rattle.coins.specs.Holdings.{idle, took, kept, waiting, answered, waits}
+use Rattle.helper_coins.specs.Holdings.{idle, took, kept, waiting, answered, waits}
 use Rattle.runs.specs.Letter.{View, holdingAt}
 
 -- a message for a helper that there is, and one for the boss

@@ -13,9 +13,9 @@ use Rattle.coins.specs.declared.mail.Kind.the-variants.{Work, More, Back, NoMor
 use Rattle.coins.specs.declared.mail.Taking.{Taking}
 use Rattle.coins.specs.declared.mail.Taking.the-variants.{Took, Later, Refused}
 use Rattle.coins.specs.Limits.{bossNumber}
-use Rattle.coins.specs.Holdings.{waits}
-use Rattle.coins.specs.Helpers.{seekWaiting, arriveStep}
-use Rattle.coins.specs.Bosses.{isOpen, sayStep, receiveStep}
+use Rattle.helper_coins.specs.Holdings.{waits}
+use Rattle.helper_coins.specs.Helpers.{seekWaiting, arriveStep}
+use Rattle.boss_coins.specs.Bosses.{isOpen, sayStep, receiveStep}
 use Rattle.runs.specs.System.{World, mailAt, helperAt, Step, gives, says, shares, rests, flushes, comes, returns, Reach, Runs}
 use Rattle.runs.specs.Letter.{View, view, isDone, holdingAt, isWork, Quiet, held, underWay, toCome}
 use Rattle.runs.specs.Moves.{Move}

@@ -13,11 +13,11 @@ use Rattle.coins.specs.declared.mail.Mail.{Mail}
 use Rattle.coins.specs.declared.mail.Post.{Post}
 use Rattle.coins.specs.declared.mail.Post.the-variants.{Nothing, Send}
 use Rattle.coins.specs.declared.mail.Taking.the-variants.{Took}
-use Rattle.coins.specs.declared.helper.Helper.{Helper}
-use Rattle.coins.specs.declared.boss.Boss.{Boss}
+use Rattle.helper_coins.specs.declared.helper.Helper.{Helper}
+use Rattle.boss_coins.specs.declared.boss.Boss.{Boss}
 use Rattle.coins.specs.Limits.{bossNumber}
-use Rattle.coins.specs.Helpers.{newHelper, shareStep, restStep, flushStep, arriveStep}
-use Rattle.coins.specs.Bosses.{newBoss, giveStep, sayStep, receiveStep}
+use Rattle.helper_coins.specs.Helpers.{newHelper, shareStep, restStep, flushStep, arriveStep}
+use Rattle.boss_coins.specs.Bosses.{newBoss, giveStep, sayStep, receiveStep}
 
 -- post: the messages under way, the oldest first
 pub record World : Type 0 where

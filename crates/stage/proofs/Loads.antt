@@ -21,16 +21,16 @@ use Rattle.coins.specs.declared.mail.Post.{Post}
 use Rattle.coins.specs.declared.mail.Post.the-variants.{Nothing, Send}
 use Rattle.coins.specs.declared.mail.Taking.{Taking}
 use Rattle.coins.specs.declared.mail.Taking.the-variants.{Took, Later, Refused as Turned}
-use Rattle.coins.specs.declared.helper.Helper.{Helper}
-use Rattle.coins.specs.declared.holding.Holding.{Holding}
-use Rattle.coins.specs.declared.boss.Boss.{Boss}
+use Rattle.helper_coins.specs.declared.helper.Helper.{Helper}
+use Rattle.helper_coins.specs.declared.holding.Holding.{Holding}
+use Rattle.boss_coins.specs.declared.boss.Boss.{Boss}
 use Rattle.coins.specs.Limits.{grant, limit}
 use Rattle.coins.specs.Letters.{place}
-use Rattle.coins.specs.Holdings.{idle, took, answered, waits}
-use Rattle.coins.specs.Helpers.{at, holdingOf, slotFor, clear, counts, seekWaiting, flushStep, workStep, moreStep, noMoreAt, arriveStep}
-use Rattle.coins.specs.Helpers.{Took-in as HelperTook, Flushed}
-use Rattle.coins.specs.Bosses.{receiveStep}
-use Rattle.coins.specs.Bosses.{Took-in as BossTook}
+use Rattle.helper_coins.specs.Holdings.{idle, took, answered, waits}
+use Rattle.helper_coins.specs.Helpers.{at, holdingOf, slotFor, clear, counts, seekWaiting, flushStep, workStep, moreStep, noMoreAt, arriveStep}
+use Rattle.helper_coins.specs.Helpers.{Took-in as HelperTook, Flushed}
+use Rattle.boss_coins.specs.Bosses.{receiveStep}
+use Rattle.boss_coins.specs.Bosses.{Took-in as BossTook}
 use Rattle.runs.specs.System.{World, helperAt, noHelper, mailAt, sent}
 use Rattle.runs.specs.Letter.{weigh, delay, mailed, delayed}
 use Rattle.runs.proofs.Tables.{by-test}

@@ -1,5 +1,5 @@
--- Searches and counts along a list, one place on; and the bytes of work.
-use Prim.Native.Nat.{ℕ, suc, _+_, _-_, _<_, _≤_, min}
+-- Searches and counts along a list, one place on.
+use Prim.Native.Nat.{ℕ, suc, _+_, _-_, _<_, _≤_}
 use mathlib.Core.Path.{_≡_, refl, sym, ap, _∙_}
 use mathlib.Core.Bool.{true, false}
 use mathlib.Core.List.{List, [], _∷_, _++_}
@@ -9,8 +9,8 @@ use lib.ListN.{length, getD, take, drop}
 use Rattle.std.proofs.shelf.Lists.{at-drop-more, at-drop-all, take-at, take-all, getD-map, getD-read, length-map}
 use Rattle.std.proofs.shelf.Sums.{countBy-more-yes, countBy-more-no}
 use Rattle.coins.specs.declared.ids.NodeId.{NodeId}
-use Rattle.coins.specs.declared.helper.Helper.{Helper}
-use Rattle.coins.specs.Helpers.{seekWaiting, newHelper}
+use Rattle.helper_coins.specs.declared.helper.Helper.{Helper}
+use Rattle.helper_coins.specs.Helpers.{seekWaiting, newHelper}
 use native.Mathlib.Numerals.{add-one}
 use Rattle.runs.specs.System.{crew, noHelper, head, onLine, noMail, mailAt, helperAt}
 use Rattle.stage.specs.declared.parcel.Parcel.{Parcel}
@@ -75,13 +75,6 @@ module _ (hs : List Helper) (i : ℕ) where
   pub holder-none : length hs ≤ i → seekHolder (drop i hs) ≡ 0
   unfolding seekHolder
   holder-none l = at-drop-all (λ (gs : List Helper). seekHolder gs) hs i l
-
--- what was copied to the front is the front
-pub front : (xs ys bs : List ℕ) → xs ≡ bs → length bs ≤ 256 → take (min (length bs) 256) (xs ++ ys) ≡ bs
-front xs ys bs e l = ap (λ (k : ℕ). take k (xs ++ ys)) m ∙ take-at xs ys (length bs) (ap length e) ∙ e
-  where
-    m : min (length bs) 256 ≡ length bs
-    m = omega arith
 
 pub crew-more : (i : ℕ) → crew (i + 1) ≡ crew i ++ newHelper (record { number = i }) ∷ []
 unfolding crew

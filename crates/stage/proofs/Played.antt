@@ -25,14 +25,14 @@ use Rattle.coins.specs.declared.mail.Post.{Post}
 use Rattle.coins.specs.declared.mail.Post.the-variants.{Nothing, Send}
 use Rattle.coins.specs.declared.mail.Taking.{Taking}
 use Rattle.coins.specs.declared.mail.Taking.the-variants.{Took, Later, Refused as Turned}
-use Rattle.coins.specs.declared.helper.Helper.{Helper}
-use Rattle.coins.specs.declared.boss.Boss.{Boss}
+use Rattle.helper_coins.specs.declared.helper.Helper.{Helper}
+use Rattle.boss_coins.specs.declared.boss.Boss.{Boss}
 use Rattle.coins.specs.Limits.{grant, limit, bossNumber}
 use Rattle.coins.specs.Letters.{seek, place}
-use Rattle.coins.specs.Helpers.{at, shareStep, restStep, arriveStep}
-use Rattle.coins.specs.Helpers.{Called as HelperCalled}
-use Rattle.coins.specs.Bosses.{giveStep, sayStep, receiveStep}
-use Rattle.coins.specs.Bosses.{Called as BossCalled, Took-in as BossTook}
+use Rattle.helper_coins.specs.Helpers.{at, shareStep, restStep, arriveStep}
+use Rattle.helper_coins.specs.Helpers.{Called as HelperCalled}
+use Rattle.boss_coins.specs.Bosses.{giveStep, sayStep, receiveStep}
+use Rattle.boss_coins.specs.Bosses.{Called as BossCalled, Took-in as BossTook}
 use Rattle.runs.specs.System.{World, helperAt, mailAt, head, onLine, First, sent, Step, gives, says, shares, rests, flushes, comes, returns, Reach, then, Runs, onward}
 use Rattle.runs.specs.Letter.{isDone}
 use Rattle.runs.specs.Promise.{Promised, Taken, Welcome, isGive}
@@ -41,13 +41,13 @@ use Rattle.runs.proofs.Books.{closed}
 use Rattle.runs.proofs.Queued.{same-node}
 use Rattle.runs.proofs.Always.{always}
 use Rattle.runs.proofs.Theorems.{promised-of}
-use Rattle.stage.specs.declared.work.Work.{Work}
+use Rattle.coins.specs.declared.work.Work.{Work}
 use Rattle.stage.specs.declared.parcel.Parcel.{Parcel}
 use Rattle.stage.specs.declared.command.Command.{Command}
 use Rattle.stage.specs.declared.command.Command.the-variants.{Give, Share, Rest, Say, Pass, Flush}
 use Rattle.stage.specs.declared.command.Reply.{Reply}
 use Rattle.stage.specs.declared.command.Reply.the-variants.{Answered}
-use Rattle.stage.specs.Works.{noWork}
+use Rattle.coins.specs.Works.{noWork}
 use Rattle.stage.specs.Scenes.{Scene, mails, world, parcelOf, sentOn, room}
 use Rattle.stage.specs.Plays.{Out, bossId, refuse, bossDid, helperDid, playGive, playSay, playShare, playRest, playFlush, taken, toHelper, toBoss, playPass, plays, lacks, Outcome, Onward, Said}
 use Rattle.stage.proofs.Looks.{mails-length}

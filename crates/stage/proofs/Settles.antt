@@ -25,16 +25,16 @@ use Rattle.coins.specs.declared.mail.Mail.{Mail}
 use Rattle.coins.specs.declared.mail.Post.{Post}
 use Rattle.coins.specs.declared.mail.Taking.{Taking}
 use Rattle.coins.specs.declared.mail.Taking.the-variants.{Took, Later, Refused as Turned}
-use Rattle.coins.specs.declared.helper.Helper.{Helper}
-use Rattle.coins.specs.declared.holding.Holding.{Holding}
-use Rattle.coins.specs.declared.boss.Boss.{Boss}
+use Rattle.helper_coins.specs.declared.helper.Helper.{Helper}
+use Rattle.helper_coins.specs.declared.holding.Holding.{Holding}
+use Rattle.boss_coins.specs.declared.boss.Boss.{Boss}
 use Rattle.coins.specs.Limits.{bossNumber}
 use Rattle.coins.specs.Letters.{seek}
-use Rattle.coins.specs.Holdings.{idle, waits}
-use Rattle.coins.specs.Helpers.{at, seekWaiting, flushStep, arriveStep}
-use Rattle.coins.specs.Helpers.{Took-in as HelperTook}
-use Rattle.coins.specs.Bosses.{receiveStep}
-use Rattle.coins.specs.Bosses.{Took-in as BossTook}
+use Rattle.helper_coins.specs.Holdings.{idle, waits}
+use Rattle.helper_coins.specs.Helpers.{at, seekWaiting, flushStep, arriveStep}
+use Rattle.helper_coins.specs.Helpers.{Took-in as HelperTook}
+use Rattle.boss_coins.specs.Bosses.{receiveStep}
+use Rattle.boss_coins.specs.Bosses.{Took-in as BossTook}
 use Rattle.runs.specs.System.{World, helperAt, mailAt, head, onLine, First, Reach}
 use Rattle.runs.specs.Letter.{view, Quiet, holdingAt, holdingsOf, postOf, weigh, mailed}
 use Rattle.runs.specs.Promise.{Promised, Taken, Welcome}
@@ -49,7 +49,7 @@ use Rattle.stage.specs.declared.parcel.Parcel.{Parcel}
 use Rattle.stage.specs.declared.command.Command.{Command}
 use Rattle.stage.specs.declared.command.Command.the-variants.{Give, Share, Rest, Say, Pass, Flush}
 use Rattle.stage.specs.declared.command.Reply.{Reply}
-use Rattle.stage.specs.Works.{noWork}
+use Rattle.coins.specs.Works.{noWork}
 use Rattle.stage.specs.Scenes.{Scene, mails, world, sentOn, room, seekHelper, seekHolder, load}
 use Rattle.stage.specs.Plays.{Out, bossId, taken, toHelper, toBoss, playPass, playFlush, plays, noMemory, lacks, Outcome, passing, next, Settled, Calmed}
 use Rattle.stage.proofs.Looks.{mails-length}

@@ -9,16 +9,16 @@ use Rattle.coins.specs.declared.answer.Refusal.the-variants.{CoinsOut, OneCoin}
 use Rattle.coins.specs.declared.ids.NodeId.{NodeId}
 use Rattle.coins.specs.declared.ids.LetterId.{LetterId}
 use Rattle.coins.specs.declared.mail.Mail.{Mail}
-use Rattle.coins.specs.declared.holding.Holding.{Holding}
+use Rattle.helper_coins.specs.declared.holding.Holding.{Holding}
 use Rattle.coins.specs.Mails.{coinsIn}
-use Rattle.coins.specs.Bosses.{newBoss}
+use Rattle.boss_coins.specs.Bosses.{newBoss}
 use Rattle.runs.specs.System.{crew}
 use Rattle.runs.specs.Letter.{view}
 use Rattle.stage.specs.declared.command.Command.{Command}
 use Rattle.stage.specs.declared.command.Command.the-variants.{Give, Share, Rest, Say, Pass}
 use Rattle.stage.specs.declared.command.Reply.{Reply}
 use Rattle.stage.specs.declared.command.Reply.the-variants.{Answered}
-use Rattle.stage.specs.Works.{noWork}
+use Rattle.coins.specs.Works.{noWork}
 use Rattle.stage.specs.Scenes.{Scene, world}
 use Rattle.stage.specs.Plays.{Out, plays}
 

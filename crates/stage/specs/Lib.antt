@@ -1,4 +1,3 @@
-pub mod Works
 pub mod Scenes
 pub mod Plays
 pub mod Tables

@@ -20,20 +20,20 @@ use Rattle.coins.specs.declared.mail.Mail.{Mail}
 use Rattle.coins.specs.declared.mail.Post.{Post}
 use Rattle.coins.specs.declared.mail.Taking.{Taking}
 use Rattle.coins.specs.declared.mail.Taking.the-variants.{Took, Later, Refused as Turned}
-use Rattle.coins.specs.declared.helper.Helper.{Helper}
-use Rattle.coins.specs.declared.boss.Boss.{Boss}
+use Rattle.helper_coins.specs.declared.helper.Helper.{Helper}
+use Rattle.boss_coins.specs.declared.boss.Boss.{Boss}
 use Rattle.coins.specs.Limits.{bossNumber}
-use Rattle.coins.specs.Holdings.{waits}
-use Rattle.coins.specs.Helpers.{shareStep, restStep, flushStep, arriveStep}
-use Rattle.coins.specs.Bosses.{giveStep, sayStep, receiveStep}
+use Rattle.helper_coins.specs.Holdings.{waits}
+use Rattle.helper_coins.specs.Helpers.{shareStep, restStep, flushStep, arriveStep}
+use Rattle.boss_coins.specs.Bosses.{giveStep, sayStep, receiveStep}
 use Rattle.runs.specs.System.{World, helperAt, mailAt, head, Step}
 use Rattle.runs.specs.Letter.{view, isDone, Quiet, holdingAt}
-use Rattle.stage.specs.declared.work.Work.{Work}
+use Rattle.coins.specs.declared.work.Work.{Work}
 use Rattle.stage.specs.declared.command.Command.{Command}
 use Rattle.stage.specs.declared.command.Command.the-variants.{Give, Share, Rest, Say, Pass, Flush}
 use Rattle.stage.specs.declared.command.Reply.{Reply}
 use Rattle.stage.specs.declared.command.Reply.the-variants.{Answered, NoMemory}
-use Rattle.stage.specs.Works.{noWork}
+use Rattle.coins.specs.Works.{noWork}
 use Rattle.stage.specs.Scenes.{Scene, mails, sentOn, room, seekHelper, seekHolder}
 
 pub record Out : Type 0 where

@@ -10,14 +10,14 @@ use Rattle.coins.specs.declared.mail.Kind.the-variants.{Work as Works, More, Ba
 use Rattle.coins.specs.declared.mail.Mail.{Mail}
 use Rattle.coins.specs.declared.mail.Post.{Post}
 use Rattle.coins.specs.declared.mail.Post.the-variants.{Nothing, Send}
-use Rattle.coins.specs.declared.helper.Helper.{Helper}
-use Rattle.coins.specs.declared.boss.Boss.{Boss}
-use Rattle.coins.specs.Helpers.{seekWaiting}
+use Rattle.helper_coins.specs.declared.helper.Helper.{Helper}
+use Rattle.boss_coins.specs.declared.boss.Boss.{Boss}
+use Rattle.helper_coins.specs.Helpers.{seekWaiting}
 use Rattle.runs.specs.System.{World, onLine}
 use Rattle.runs.specs.Letter.{mailed, delayed}
-use Rattle.stage.specs.declared.work.Work.{Work}
+use Rattle.coins.specs.declared.work.Work.{Work}
 use Rattle.stage.specs.declared.parcel.Parcel.{Parcel}
-use Rattle.stage.specs.Works.{noWork}
+use Rattle.coins.specs.Works.{noWork}
 
 pub record Scene : Type 0 where
   pub boss : Boss

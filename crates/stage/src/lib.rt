@@ -5,4 +5,3 @@ mod lines;
 pub mod parcel;
 pub mod stage;
 mod table;
-pub mod work;

@@ -5,9 +5,9 @@ ghost use lib.ListN.{length};
 ghost use Rattle.runs.specs.System.{head, onLine};
 ghost use Rattle.stage.specs.Scenes.{mails, room, seekHelper, seekHolder};
 use crate::parcel::Parcel;
-use coins::helper::Helper;
 use coins::ids::NodeId;
 use coins::mail::Mail;
+use helper_coins::helper::Helper;
 
 // As many messages of a sender to a receiver may be under way.
 pub const WINDOW: usize = 1024;

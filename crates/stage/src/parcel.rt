@@ -1,9 +1,9 @@
 // A message under way, with the bytes of its work beside it.
 ghost use mathlib.Core.Path.{_≡_};
 ghost use Rattle.stage.specs.Scenes.{parcelOf};
-use crate::work::Work;
 use coins::mail::Kind;
 use coins::mail::Mail;
+use coins::work::Work;
 
 #[derive(Clone, Copy)]
 pub struct Parcel {

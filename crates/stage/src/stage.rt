@@ -6,7 +6,7 @@ ghost use lib.ListN.{length};
 ghost use Rattle.std.specs.Of.Vec.{vec-items};
 ghost use Rattle.std.specs.Results.{Cases as ByOk};
 ghost use Rattle.std.specs.declared.result.Result.the-variants.{Err};
-ghost use Rattle.coins.specs.Helpers.{holdingOf};
+ghost use Rattle.helper_coins.specs.Helpers.{holdingOf};
 ghost use Rattle.runs.specs.System.{Reach, Runs, start, helperAt};
 ghost use Rattle.runs.specs.Promise.{Promised};
 ghost use Rattle.stage.specs.Scenes.{world};
@@ -16,12 +16,12 @@ use crate::command::Command;
 use crate::command::Reply;
 use crate::parcel::Parcel;
 use crate::table::Table;
-use crate::work::Work;
+use boss_coins::boss::Boss;
 use coins::answer::Answer;
-use coins::boss::Boss;
-use coins::holding::Holding;
 use coins::ids::LetterId;
 use coins::ids::NodeId;
+use coins::work::Work;
+use helper_coins::holding::Holding;
 use std::alloc::Global;
 
 // Why there is no stage.

@@ -1,8 +1,8 @@
 use mathlib.Core.Path.{sym, ap, subst}
 use Rattle.runs.specs.System.{still}
 use Rattle.runs.proofs.Theorems.{promised-of}
-use Rattle.stage.specs.declared.work.Work.{Work}
-use Rattle.stage.specs.Works.{noWork}
+use Rattle.coins.specs.declared.work.Work.{Work}
+use Rattle.coins.specs.Works.{noWork}
 use Rattle.stage.specs.Scenes.{world}
 use Rattle.stage.specs.Plays.{plays, lacks, noMemory, Outcome}
 use Rattle.stage.specs.Tables.{scene}

@@ -2,18 +2,7 @@
 ghost use mathlib.Core.Path.{_≡_};
 ghost use Prim.Native.Nat.{_+_, _<_};
 ghost use lib.ListN.{length, getD, set};
-ghost use lib.Dec.{ltb};
 ghost use Rattle.coins.specs.Limits.{limit};
-
-// No count comes to this.
-pub(crate) const LIMIT: u64 = 1 << 62;
-
-// Whether n more keep a count below the limit.
-pub(crate) fn fits(count: u64, more: u64) -> bool
-    ensures { λ r. ⌜ r ≡ ltb (count + more) limit ⌝ }
-{
-    more < LIMIT && count < LIMIT - more
-}
 
 // Adds to the i-th of the counts.
 pub(crate) fn add(counts: &mut [u64], i: usize, more: u64)

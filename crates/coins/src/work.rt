@@ -3,7 +3,7 @@ ghost use mathlib.Core.Path.{_≡_};
 ghost use Prim.Native.Nat.{_<_};
 ghost use lib.ListN.{length};
 ghost use Rattle.std.specs.Options.{Cases as BySome};
-ghost use Rattle.stage.specs.Works.{noWork, bytesOf};
+ghost use Rattle.coins.specs.Works.{noWork, bytesOf};
 
 // At most this many bytes go with work.
 pub const LONGEST: usize = 256;

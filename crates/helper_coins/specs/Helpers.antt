@@ -4,23 +4,23 @@ use mathlib.Core.Bool.{Bool, cond, _&&_, _||_, not}
 use mathlib.Core.List.{List, [], _∷_}
 use lib.Dec.{eqb, ltb}
 use lib.ListN.{getD, set, replicate}
 use Rattle.coins.specs.declared.ids.LetterId.{LetterId}
 use Rattle.coins.specs.declared.ids.NodeId.{NodeId}
 use Rattle.coins.specs.declared.answer.Answer.the-variants.{Fine, Refused}
 use Rattle.coins.specs.declared.answer.Refusal.{Refusal}
 use Rattle.coins.specs.declared.answer.Refusal.the-variants.{Malformed, NoLetter, NotWorking, OneCoin, LettersFull, NoPlace}
 use Rattle.coins.specs.declared.mail.Kind.{Kind}
 use Rattle.coins.specs.declared.mail.Kind.the-variants.{Work, More, Back, NoMore, Ask}
 use Rattle.coins.specs.declared.mail.Post.{Post}
 use Rattle.coins.specs.declared.mail.Post.the-variants.{Nothing, Send}
 use Rattle.coins.specs.declared.mail.Outcome.{Outcome}
 use Rattle.coins.specs.declared.mail.Taking.{Taking}
 use Rattle.coins.specs.declared.mail.Taking.the-variants.{Took, Later, Refused as Turned}
-use Rattle.coins.specs.declared.holding.Holding.{Holding}
-use Rattle.coins.specs.declared.helper.Helper.{Helper}
+use Rattle.helper_coins.specs.declared.holding.Holding.{Holding}
+use Rattle.helper_coins.specs.declared.helper.Helper.{Helper}
 use Rattle.coins.specs.Limits.{limit, bossNumber}
 use Rattle.coins.specs.Letters.{seek, place}
-use Rattle.coins.specs.Holdings.{idle, took, kept, waiting, answered, waits}
+use Rattle.helper_coins.specs.Holdings.{idle, took, kept, waiting, answered, waits}
 
 -- what a call leaves and answers; what a message leaves, and what becomes of it; what a flush leaves and sends
 pub record Called : Type 0 where

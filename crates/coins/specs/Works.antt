@@ -2,7 +2,7 @@
 use Prim.Native.Nat.{ℕ, min}
 use mathlib.Core.List.{List}
 use lib.ListN.{take, replicate}
-use Rattle.stage.specs.declared.work.Work.{Work}
+use Rattle.coins.specs.declared.work.Work.{Work}
 
 abbrev pub noWork : Work
 noWork = record { len = 0; bytes = replicate 256 0 }

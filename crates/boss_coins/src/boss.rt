@@ -1,21 +1,21 @@
 // The boss: what it gives out, what comes back, and when it says that a letter is done.
 ghost use mathlib.Core.Path.{_≡_};
 ghost use Prim.Native.Nat.{_+_, _<_};
-ghost use Rattle.coins.specs.Bosses.{newBoss, givenOf, backOf, isOpen, giveStep, giveOpen, giveNew, sayStep, backStep, askStep, receiveStep};
-use crate::answer::Answer;
-use crate::answer::Refusal;
+ghost use Rattle.boss_coins.specs.Bosses.{newBoss, givenOf, backOf, isOpen, giveStep, giveOpen, giveNew, sayStep, backStep, askStep, receiveStep};
 use crate::counts::add;
-use crate::counts::fits;
-use crate::ids::LetterId;
-use crate::ids::NodeId;
-use crate::letters::LETTERS;
-use crate::letters::find;
-use crate::letters::first;
-use crate::mail::Kind;
-use crate::mail::Mail;
-use crate::mail::Outcome;
-use crate::mail::Post;
-use crate::mail::Taking;
+use coins::answer::Answer;
+use coins::answer::Refusal;
+use coins::ids::LetterId;
+use coins::ids::NodeId;
+use coins::letters::LETTERS;
+use coins::letters::find;
+use coins::letters::first;
+use coins::limits::fits;
+use coins::mail::Kind;
+use coins::mail::Mail;
+use coins::mail::Outcome;
+use coins::mail::Post;
+use coins::mail::Taking;
 
 // The coins that go with work from the boss, and to who asks for more.
 pub const GRANT: u32 = 1 << 20;

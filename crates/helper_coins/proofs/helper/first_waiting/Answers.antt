@@ -1,7 +1,7 @@
 use native.Mathlib.Omega.{arith}
 use mathlib.Core.Path.{sym}
-use Rattle.coins.proofs.Seeks.{waiting-here, waiting-more, waiting-none}
-use Rattle.coins.proofs.helper.first_waiting.Needs as need
+use Rattle.helper_coins.proofs.Seeks.{waiting-here, waiting-more, waiting-none}
+use Rattle.helper_coins.proofs.helper.first_waiting.Needs as need
 
 pub returns-then-is-waiting : need.returns-then-is-waiting
 returns-then-is-waiting c =

@@ -1,8 +1,8 @@
 // A helper's state of one letter.
 ghost use mathlib.Core.Path.{_≡_};
 ghost use Prim.Native.Nat.{_+_, _-_, _/_, _<_};
 ghost use Rattle.coins.specs.Limits.{limit};
-ghost use Rattle.coins.specs.Holdings.{idle, took, kept, waiting, answered, waits};
+ghost use Rattle.helper_coins.specs.Holdings.{idle, took, kept, waiting, answered, waits};
 use crate::purse::Coins;
 
 // A helper's state of a letter: whether it is at work on it, how many coins of it it has, and whether it

@@ -1,6 +1,6 @@
 use native.Mathlib.Omega.{arith}
-use Rattle.stage.proofs.Looks.{front}
-use Rattle.stage.proofs.work.Work.new.Needs as need
+use Rattle.coins.proofs.Bytes.{front}
+use Rattle.coins.proofs.work.Work.new.Needs as need
 
 pub returns : need.returns
 returns c = front _ _ (c .args .bytes .now) (c .copy-from-slice .ensures .after) (omega arith)

@@ -3,21 +3,21 @@ use Prim.Native.Nat.{ℕ, _+_}
 use mathlib.Core.Bool.{Bool, cond, _||_}
 use lib.Dec.{eqb, ltb, leb}
 use lib.ListN.{getD, set, replicate}
 use Rattle.coins.specs.declared.ids.LetterId.{LetterId}
 use Rattle.coins.specs.declared.ids.NodeId.{NodeId}
 use Rattle.coins.specs.declared.answer.Answer.the-variants.{Fine, Done, Refused}
 use Rattle.coins.specs.declared.answer.Refusal.{Refusal}
 use Rattle.coins.specs.declared.answer.Refusal.the-variants.{Malformed, NoLetter, CoinsOut, CountsUsed, LettersFull, NoPlace}
 use Rattle.coins.specs.declared.mail.Kind.{Kind}
 use Rattle.coins.specs.declared.mail.Kind.the-variants.{Work, More, Back, NoMore, Ask}
 use Rattle.coins.specs.declared.mail.Post.{Post}
 use Rattle.coins.specs.declared.mail.Post.the-variants.{Nothing, Send}
 use Rattle.coins.specs.declared.mail.Outcome.{Outcome}
 use Rattle.coins.specs.declared.mail.Taking.{Taking}
 use Rattle.coins.specs.declared.mail.Taking.the-variants.{Took, Later, Refused as Turned}
-use Rattle.coins.specs.declared.boss.Boss.{Boss}
+use Rattle.boss_coins.specs.declared.boss.Boss.{Boss}
 use Rattle.coins.specs.Limits.{grant, limit, bossNumber}
 use Rattle.coins.specs.Letters.{seek, place}
 
 -- what a call leaves and answers; what a message leaves, and what becomes of it
 pub record Called : Type 0 where

@@ -3,22 +3,22 @@ ghost use mathlib.Core.Path.{_≡_};
 ghost use Prim.Native.Nat.{_+_, _-_, _<_, _≤_};
 ghost use lib.Dec.{ltb};
 ghost use lib.ListN.{length};
 ghost use Rattle.coins.specs.Letters.{place};
-ghost use Rattle.coins.specs.Helpers.{newHelper, holdingOf, slotFor, write, clear, seekWaiting, shareStep, askAt, restStep, flushStep, workStep, moreStep, noMoreStep, arriveStep};
-use crate::answer::Answer;
-use crate::answer::Refusal;
-use crate::counts::fits;
+ghost use Rattle.helper_coins.specs.Helpers.{newHelper, holdingOf, slotFor, write, clear, seekWaiting, shareStep, askAt, restStep, flushStep, workStep, moreStep, noMoreStep, arriveStep};
 use crate::holding::Holding;
-use crate::ids::LetterId;
-use crate::ids::NodeId;
-use crate::letters::LETTERS;
-use crate::letters::find;
-use crate::letters::first;
-use crate::mail::Kind;
-use crate::mail::Mail;
-use crate::mail::Outcome;
-use crate::mail::Post;
-use crate::mail::Taking;
+use coins::answer::Answer;
+use coins::answer::Refusal;
+use coins::ids::LetterId;
+use coins::ids::NodeId;
+use coins::letters::LETTERS;
+use coins::letters::find;
+use coins::letters::first;
+use coins::limits::fits;
+use coins::mail::Kind;
+use coins::mail::Mail;
+use coins::mail::Outcome;
+use coins::mail::Post;
+use coins::mail::Taking;
 
 // A helper's state: for each of up to 64 letters its number, 0 where the place is free, and its holding.
 #[derive(Drop)]
@@ -80,8 +80,7 @@ impl Helper {
 
     // The place that the letter has, or else a free one, or else 64.
     fn slot_for(&self, letter: LetterId) -> usize
-        ensures value { λ r. ⌜ r ≡ slotFor (now (self .entry)) (letter .number) ⌝ }
-        ensures within { λ r. ⌜ r ≤ 64 ⌝ }
+        ensures { λ r. ⌜ r ≡ slotFor (now (self .entry)) (letter .number) ⌝ }
     {
         let i = find(&self.letters, letter);
         if i < LETTERS {

@@ -2,7 +2,7 @@
 use Prim.Native.Nat.{ℕ, _+_, _-_, _/_}
 use mathlib.Core.Bool.{Bool, true, false, _&&_, not}
 use lib.Dec.{ltb}
-use Rattle.coins.specs.declared.holding.Holding.{Holding}
+use Rattle.helper_coins.specs.declared.holding.Holding.{Holding}
 
 abbrev pub idle : Holding
 idle = record { working = false; coins = 0; asked = false }
