@@ -159,7 +159,7 @@ impl Boss {
         }
         let given = self.given[i];
         let back = self.back[i];
-        if given < back || given - back < coins {
+        if given.saturating_sub(back) < coins {
             return Taking::Refused(Refusal::Malformed);
         }
         self.back[i] = back + coins;

@@ -2,12 +2,17 @@
 ghost use mathlib.Core.Path.{_≡_};
 ghost use Rattle.std.specs.Of.Vec.{vec-items};
 ghost use Rattle.std.specs.Vec.{made};
+ghost use mathlib.Core.Bool.{true, false};
+ghost use Rattle.std.specs.Options.{Cases as BySome};
 ghost use Rattle.std.specs.Results.{Cases as ByOk};
-ghost use Rattle.script.specs.Lines.{isLine, lineIn};
+ghost use Rattle.script.specs.Lines.{isLine, lineIn, play, settle, show, new};
+ghost use Rattle.text.specs.Hex.{bytesOf};
+ghost use Rattle.coins.specs.Works.{noWork, bytesOf as workBytes};
 ghost use Rattle.runs.specs.System.{Runs, start};
-ghost use Rattle.stage.specs.Plays.{Said};
-ghost use Rattle.stage.specs.Stages.{worldOn};
-ghost use Rattle.rehearsal.specs.Steps.{Says, Turns};
+ghost use Rattle.stage.specs.Scenes.{opening};
+ghost use Rattle.stage.specs.Plays.{plays, Said};
+ghost use Rattle.stage.specs.Stages.{sceneOn, worldOn};
+ghost use Rattle.rehearsal.specs.Steps.{follows, Acts, isWork, Plays, Does, Turns};
 use crate::answer::push_answer;
 use crate::show::push_stage;
 use coins::answer::Answer;
@@ -33,7 +38,8 @@ pub struct Rehearsal {
 }
 
 fn staged(heap: Global, helpers: u16) -> Result<Stage, AllocError>
-    ensures { λ r. ⌜ made r (λ s. worldOn s ≡ start helpers) ⌝ }
+    ensures opens { λ r. ⌜ made r (λ s. sceneOn s ≡ opening helpers) ⌝ }
+    ensures starts { λ r. ⌜ made r (λ s. worldOn s ≡ start helpers) ⌝ }
 {
     match Stage::new(heap, helpers) {
         Ok(stage) => Ok(stage),
@@ -53,7 +59,7 @@ fn answered(reply: Reply) -> Result<Answer, AllocError>
 impl Rehearsal {
     // A rehearsal with eight helpers, on which nothing has happened.
     pub fn new(heap: Global) -> Result<Rehearsal, AllocError>
-        ensures { λ r. ⌜ made r (λ x. worldOn (x .stage) ≡ start 8) ⌝ }
+        ensures { λ r. ⌜ made r (λ x. sceneOn (x .stage) ≡ opening 8) ⌝ }
     {
         Ok(Rehearsal {
             heap,
@@ -63,14 +69,17 @@ impl Rehearsal {
 
     // Coins that waited for a place go, where there is one.
     fn flush(&mut self, by: NodeId) -> Result<(), AllocError>
-        ensures { λ _. ⌜ Runs (worldOn (now (self .entry) .stage)) (worldOn (now (self .exit) .stage)) ⌝ }
+        ensures does { λ r. ⌜ made r (λ _. sceneOn (now (self .exit) .stage) ≡ plays (sceneOn (now (self .entry) .stage)) (Command.Flush by) noWork .scene) ⌝ }
+        ensures goes { λ _. ⌜ Runs (worldOn (now (self .entry) .stage)) (worldOn (now (self .exit) .stage)) ⌝ }
     {
         answered(self.stage.play(Command::Flush { by }, Work::none()))?;
         Ok(())
     }
 
     // The work whose bytes are given in hexadecimal, if they are and are not too many.
-    fn work(&self, hex: &[u8]) -> Result<Option<Work>, AllocError> {
+    fn work(&self, hex: &[u8]) -> Result<Option<Work>, AllocError>
+        ensures { λ r. ⌜ made r (λ o. BySome o (isWork (now (hex .entry)) ≡ false) (λ w. (isWork (now (hex .entry)) ≡ true) × (workBytes w ≡ bytesOf (now (hex .entry))))) ⌝ }
+    {
         match unhex(self.heap, hex) {
             Ok(bytes) => Ok(Work::new(&bytes)),
             Err(HexFault::NotHex) => Ok(None),
@@ -80,6 +89,7 @@ impl Rehearsal {
 
     // Where a helper's message came, there is a place for coins that waited.
     fn follow(&mut self, command: Command, answer: Answer) -> Result<(), AllocError>
+        ensures does { λ r. ⌜ made r (λ _. sceneOn (now (self .exit) .stage) ≡ follows command answer (sceneOn (now (self .entry) .stage))) ⌝ }
         ensures goes { λ _. ⌜ Runs (worldOn (now (self .entry) .stage)) (worldOn (now (self .exit) .stage)) ⌝ }
         ensures done { λ _. ⌜ (answer ≡ Answer.Done → worldOn (now (self .exit) .stage) ≡ worldOn (now (self .entry) .stage)) ⌝ }
     {
@@ -97,6 +107,7 @@ impl Rehearsal {
 
     // Plays a command, and what follows it.
     fn act(&mut self, command: Command, work: Work) -> Result<Answer, AllocError>
+        ensures does { λ r. ⌜ made r (λ a. Acts (sceneOn (now (self .entry) .stage)) command work (sceneOn (now (self .exit) .stage)) a) ⌝ }
         ensures goes { λ _. ⌜ Runs (worldOn (now (self .entry) .stage)) (worldOn (now (self .exit) .stage)) ⌝ }
         ensures done { λ r. ⌜ made r (λ a. a ≡ Answer.Done → Said command (worldOn (now (self .exit) .stage))) ⌝ }
     {
@@ -107,6 +118,7 @@ impl Rehearsal {
 
     // Plays a command of a line, with the hexadecimal of its work.
     fn play(&mut self, command: Command, hex: &[u8]) -> Result<Answer, AllocError>
+        ensures does { λ r. ⌜ made r (λ a. Plays (sceneOn (now (self .entry) .stage)) command (now (hex .entry)) (sceneOn (now (self .exit) .stage)) a) ⌝ }
         ensures goes { λ _. ⌜ Runs (worldOn (now (self .entry) .stage)) (worldOn (now (self .exit) .stage)) ⌝ }
         ensures done { λ r. ⌜ made r (λ a. a ≡ Answer.Done → Said command (worldOn (now (self .exit) .stage))) ⌝ }
     {
@@ -116,43 +128,51 @@ impl Rehearsal {
         self.act(command, work)
     }
 
-    // Messages come until none is left.
-    fn settle(&mut self) -> Result<Answer, AllocError>
+    // Plays a command of a line, and puts its answer behind what is there.
+    fn tell(&mut self, command: Command, hex: &[u8], out: &mut Vec<u8>) -> Result<(), AllocError>
+        ensures does { λ r. ⌜ made r (λ _. Does true (play command (now (hex .entry))) (sceneOn (now (self .entry) .stage)) (sceneOn (now (self .exit) .stage)) (vec-items (now (out .entry))) (vec-items (now (out .exit)))) ⌝ }
         ensures goes { λ _. ⌜ Runs (worldOn (now (self .entry) .stage)) (worldOn (now (self .exit) .stage)) ⌝ }
-        ensures value { λ r. ⌜ made r (λ a. a ≡ Answer.Fine) ⌝ }
+    {
+        let answer = self.play(command, hex)?;
+        push_answer(out, answer)
+    }
+
+    // Messages come until none is left.
+    fn settle(&mut self, out: &mut Vec<u8>) -> Result<(), AllocError>
+        ensures does { λ r. ⌜ made r (λ _. Does true settle (sceneOn (now (self .entry) .stage)) (sceneOn (now (self .exit) .stage)) (vec-items (now (out .entry))) (vec-items (now (out .exit)))) ⌝ }
+        ensures goes { λ _. ⌜ Runs (worldOn (now (self .entry) .stage)) (worldOn (now (self .exit) .stage)) ⌝ }
     {
         answered(self.stage.settle())?;
-        Ok(Answer::Fine)
+        push_answer(out, Answer::Fine)
     }
 
-    fn restart(&mut self, helpers: u16) -> Result<Answer, AllocError>
-        ensures after { λ r. ⌜ made r (λ _. worldOn (now (self .exit) .stage) ≡ start helpers) ⌝ }
-        ensures value { λ r. ⌜ made r (λ a. a ≡ Answer.Fine) ⌝ }
+    fn restart(&mut self, helpers: u16, out: &mut Vec<u8>) -> Result<(), AllocError>
+        ensures starts { λ r. ⌜ made r (λ _. worldOn (now (self .exit) .stage) ≡ start helpers) ⌝ }
+        ensures does { λ r. ⌜ made r (λ _. Does true (new helpers) (sceneOn (now (self .entry) .stage)) (sceneOn (now (self .exit) .stage)) (vec-items (now (out .entry))) (vec-items (now (out .exit)))) ⌝ }
     {
         self.stage = staged(self.heap, helpers)?;
-        Ok(Answer::Fine)
+        push_answer(out, Answer::Fine)
     }
 
-    fn show(&self, out: &mut Vec<u8>) -> Result<Answer, AllocError>
-        ensures { λ r. ⌜ made r (λ a. a ≡ Answer.Fine) ⌝ }
+    fn show(&self, out: &mut Vec<u8>) -> Result<(), AllocError>
+        ensures { λ r. ⌜ made r (λ _. Does true show (sceneOn (now (self .entry) .stage)) (sceneOn (now (self .entry) .stage)) (vec-items (now (out .entry))) (vec-items (now (out .exit)))) ⌝ }
     {
         push_stage(self.heap, out, &self.stage)?;
-        Ok(Answer::Fine)
+        push_answer(out, Answer::Fine)
     }
 
     // Plays a line, and puts what is shown and answered behind what is there.
     pub fn step(&mut self, line: &[u8], out: &mut Vec<u8>) -> Result<(), AllocError>
-        ensures says { λ r. ⌜ made r (λ _. Says (isLine (now (line .entry))) (lineIn (now (line .entry))) (worldOn (now (self .exit) .stage)) (vec-items (now (out .entry))) (vec-items (now (out .exit)))) ⌝ }
+        ensures does { λ r. ⌜ made r (λ _. Does (isLine (now (line .entry))) (lineIn (now (line .entry))) (sceneOn (now (self .entry) .stage)) (sceneOn (now (self .exit) .stage)) (vec-items (now (out .entry))) (vec-items (now (out .exit)))) ⌝ }
         ensures turns { λ r. ⌜ made r (λ _. Turns (isLine (now (line .entry))) (lineIn (now (line .entry))) (worldOn (now (self .entry) .stage)) (worldOn (now (self .exit) .stage))) ⌝ }
     {
-        let answer = match read(line) {
-            Some(Line::Empty) => return Ok(()),
-            Some(Line::Play { command, hex }) => self.play(command, hex)?,
-            Some(Line::Settle) => self.settle()?,
-            Some(Line::Show) => self.show(out)?,
-            Some(Line::New { helpers }) => self.restart(helpers)?,
-            None => Answer::Refused(Refusal::Malformed),
-        };
-        push_answer(out, answer)
+        match read(line) {
+            Some(Line::Empty) => Ok(()),
+            Some(Line::Play { command, hex }) => self.tell(command, hex, out),
+            Some(Line::Settle) => self.settle(out),
+            Some(Line::Show) => self.show(out),
+            Some(Line::New { helpers }) => self.restart(helpers, out),
+            None => push_answer(out, Answer::Refused(Refusal::Malformed)),
+        }
     }
 }

@@ -3,7 +3,11 @@ ghost use mathlib.Core.Path.{_≡_};
 ghost use Rattle.std.specs.Of.Vec.{vec-items};
 ghost use Rattle.std.specs.Vec.{made};
 ghost use Rattle.text.specs.Growth.{Added};
-ghost use Rattle.rehearsal.specs.Tables.{coinsColumn, countsRow, workColumn, askedColumn, helperRow, nodeColumn, kindColumn, bytesColumn, mailRow};
+ghost use Prim.Native.Nat.{min};
+ghost use lib.ListN.{length};
+ghost use Rattle.stage.specs.Stages.{sceneOn};
+ghost use Rattle.rehearsal.specs.Tables.{coinsColumn, countsRow, workColumn, askedColumn, helperRow, nodeColumn, kindColumn, bytesColumn, mailRow, helperRows, rowOf, parcelRows, headed, letterTable, tableOf, tables, Sorted, Shown};
+use boss_coins::boss::Boss;
 use coins::ids::BOSS;
 use coins::ids::LetterId;
 use coins::ids::NodeId;
@@ -20,27 +24,66 @@ use text::hex::push_hex;
 use text::plain::push_text;
 
 // Puts the table of all open letters behind what is there, by their numbers.
-pub(crate) fn push_stage(heap: Global, out: &mut Vec<u8>, stage: &Stage) -> Result<(), AllocError> {
-    let mut numbers = Vec::from_slice(heap, stage.boss().letters())?;
-    numbers.sort();
-    let mut is_any = false;
-    for number in numbers.iter() {
-        if *number > 0 {
-            is_any = true;
-            push_letter(out, stage, LetterId { number: *number })?;
-        }
-    }
-    if !is_any {
+pub(crate) fn push_stage(heap: Global, out: &mut Vec<u8>, stage: &Stage) -> Result<(), AllocError>
+    ensures { λ r. ⌜ made r (λ _. Shown (sceneOn (now (stage .entry))) (vec-items (now (out .entry))) (vec-items (now (out .exit)))) ⌝ }
+{
+    let numbers = open_letters(heap, stage.boss())?;
+    let mut letters = Vec::new(heap);
+    push_letters(heap, &mut letters, stage, &numbers)?;
+    if letters.is_empty() {
         push_text(out, b"no letter is open\n")?;
+        return Ok(());
+    }
+    push_text(out, &letters)?;
+    Ok(())
+}
+
+// The numbers of the letters that are open, in their order; behind zeros for the places that are free.
+fn open_letters(heap: Global, boss: &Boss) -> Result<Vec<u32>, AllocError>
+    ensures { λ r. ⌜ made r (λ v. Sorted (now (boss .entry) .letters) (vec-items v)) ⌝ }
+{
+    let mut numbers = Vec::from_slice(heap, boss.letters())?;
+    numbers.sort();
+    Ok(numbers)
+}
+
+fn push_letters(
+    heap: Global,
+    out: &mut Vec<u8>,
+    stage: &Stage,
+    numbers: &[u32],
+) -> Result<(), AllocError>
+    ensures { λ r. ⌜ made r (λ _. Added (vec-items (now (out .entry))) (vec-items (now (out .exit))) (tables (sceneOn (now (stage .entry))) (now (numbers .entry)))) ⌝ }
+{
+    for number in numbers {
+        push_open(heap, out, stage, *number)?;
     }
     Ok(())
 }
 
-fn push_letter(out: &mut Vec<u8>, stage: &Stage, letter: LetterId) -> Result<(), AllocError> {
+// A letter, or nothing where the number is 0.
+fn push_open(heap: Global, out: &mut Vec<u8>, stage: &Stage, number: u32) -> Result<(), AllocError>
+    ensures { λ r. ⌜ made r (λ _. Added (vec-items (now (out .entry))) (vec-items (now (out .exit))) (tableOf (sceneOn (now (stage .entry))) number)) ⌝ }
+{
+    if number > 0 {
+        push_letter(heap, out, stage, LetterId { number })?;
+    }
+    Ok(())
+}
+
+fn push_letter(
+    heap: Global,
+    out: &mut Vec<u8>,
+    stage: &Stage,
+    letter: LetterId,
+) -> Result<(), AllocError>
+    ensures { λ r. ⌜ made r (λ _. Added (vec-items (now (out .entry))) (vec-items (now (out .exit))) (letterTable (sceneOn (now (stage .entry))) letter)) ⌝ }
+{
     let boss = stage.boss();
     push_counts(out, letter, boss.given(letter), boss.back(letter))?;
+    push_text(out, b"  helper       coins  at work  asked\n")?;
     push_helpers(out, stage, letter)?;
-    push_parcels(out, stage.parcels(), letter)?;
+    push_parcels(heap, out, stage.parcels(), letter)?;
     Ok(())
 }
 
@@ -57,8 +100,9 @@ fn push_counts(out: &mut Vec<u8>, letter: LetterId, given: u64, back: u64) -> Re
     Ok(())
 }
 
-fn push_helpers(out: &mut Vec<u8>, stage: &Stage, letter: LetterId) -> Result<(), AllocError> {
-    push_text(out, b"  helper       coins  at work  asked\n")?;
+fn push_helpers(out: &mut Vec<u8>, stage: &Stage, letter: LetterId) -> Result<(), AllocError>
+    ensures { λ r. ⌜ made r (λ _. Added (vec-items (now (out .entry))) (vec-items (now (out .exit))) (helperRows (sceneOn (now (stage .entry)) .helpers) letter (min (length (sceneOn (now (stage .entry)) .helpers)) 256))) ⌝ }
+{
     for i in 0..stage.helpers().min(256) {
         let helper = NodeId { number: i as u16 };
         push_helper(out, helper, stage.holding(helper, letter))?;
@@ -101,16 +145,39 @@ fn push_coins(out: &mut Vec<u8>, coins: u64) -> Result<(), AllocError>
 }
 
 // What is under way of a letter, the oldest first.
-fn push_parcels(out: &mut Vec<u8>, parcels: &[Parcel], letter: LetterId) -> Result<(), AllocError> {
-    let mut is_any = false;
+fn push_parcels(
+    heap: Global,
+    out: &mut Vec<u8>,
+    parcels: &[Parcel],
+    letter: LetterId,
+) -> Result<(), AllocError>
+    ensures { λ r. ⌜ made r (λ _. Added (vec-items (now (out .entry))) (vec-items (now (out .exit))) (headed (parcelRows letter (now (parcels .entry))))) ⌝ }
+{
+    let mut rows = Vec::new(heap);
+    push_rows(&mut rows, parcels, letter)?;
+    if rows.is_empty() {
+        return Ok(());
+    }
+    push_text(out, b"  from    to  kind       coins  bytes\n")?;
+    push_text(out, &rows)?;
+    Ok(())
+}
+
+fn push_rows(out: &mut Vec<u8>, parcels: &[Parcel], letter: LetterId) -> Result<(), AllocError>
+    ensures { λ r. ⌜ made r (λ _. Added (vec-items (now (out .entry))) (vec-items (now (out .exit))) (parcelRows letter (now (parcels .entry)))) ⌝ }
+{
     for parcel in parcels {
-        if parcel.mail.letter.number == letter.number {
-            if !is_any {
-                push_text(out, b"  from    to  kind       coins  bytes\n")?;
-            }
-            is_any = true;
-            push_mail(out, parcel.mail, parcel.work.bytes())?;
-        }
+        push_row(out, parcel, letter)?;
+    }
+    Ok(())
+}
+
+// A message, if it is of the letter.
+fn push_row(out: &mut Vec<u8>, parcel: &Parcel, letter: LetterId) -> Result<(), AllocError>
+    ensures { λ r. ⌜ made r (λ _. Added (vec-items (now (out .entry))) (vec-items (now (out .exit))) (rowOf letter (now (parcel .entry)))) ⌝ }
+{
+    if parcel.mail.letter.number == letter.number {
+        push_mail(out, parcel.mail, parcel.work.bytes())?;
     }
     Ok(())
 }

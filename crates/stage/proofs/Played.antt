@@ -9,6 +9,7 @@ use lib.Dec.{eqb, ltb, leb}
 use lib.ListN.{length, getD, set, take, drop}
 use Rattle.std.specs.Holes.{removed}
 use Rattle.std.specs.Orderings.{When}
+use Rattle.std.specs.declared.option.Option.the-variants.{Some}
 use Rattle.std.proofs.shelf.Lists.{map-push, map-append, take-map, drop-map}
 use Rattle.std.proofs.shelf.Ways.{eqb-tells}
 use Rattle.std.proofs.shelf.Tests.{eqb-true}
@@ -46,10 +47,10 @@ use Rattle.stage.specs.declared.parcel.Parcel.{Parcel}
 use Rattle.stage.specs.declared.command.Command.{Command}
 use Rattle.stage.specs.declared.command.Command.the-variants.{Give, Share, Rest, Say, Pass, Flush}
 use Rattle.stage.specs.declared.command.Reply.{Reply}
-use Rattle.stage.specs.declared.command.Reply.the-variants.{Answered}
+use Rattle.stage.specs.declared.command.Reply.the-variants.{Answered, NoMemory}
 use Rattle.coins.specs.Works.{noWork}
 use Rattle.stage.specs.Scenes.{Scene, mails, world, parcelOf, sentOn, room}
-use Rattle.stage.specs.Plays.{Out, bossId, refuse, bossDid, helperDid, playGive, playSay, playShare, playRest, playFlush, taken, toHelper, toBoss, playPass, plays, lacks, Outcome, Onward, Said}
+use Rattle.stage.specs.Plays.{Out, bossId, refuse, bossDid, helperDid, playGive, playSay, playShare, playRest, playFlush, taken, toHelper, toBoss, playPass, plays, noMemory, lacks, Outcome, Onward, Said, next, Lets}
 use Rattle.stage.proofs.Looks.{mails-length}
 
 pub clash : {P : Type 0} → _≡_ {A = ℕ} 0 1 → P
@@ -313,19 +314,30 @@ module _ (s t : Scene) (c : Command) (work : Work) (r : Reply) (h : Outcome (lac
   pub reach-on : ∥ Reach (world t) ∥₁
   reach-on = ∥∥₁-map q (λ p. ⊎-elim (λ g. then p g) (λ e. subst Reach (sym e) p) goes-on)
 
-no-lack : (P Q : Type 0) (c : Command) → When (lacks c (Answered Done)) P Q → Q
-no-lack P Q (Give letter to) h = h
-no-lack P Q (Share by letter to) h = h
-no-lack P Q (Rest by letter) h = h
-no-lack P Q (Say letter) h = h
-no-lack P Q (Pass from to) h = h
-no-lack P Q (Flush by) h = h
+no-lack : (P Q : Type 0) (c : Command) (a : Answer) → When (lacks c (Answered a)) P Q → Q
+no-lack P Q (Give letter to) a h = h
+no-lack P Q (Share by letter to) a h = h
+no-lack P Q (Rest by letter) a h = h
+no-lack P Q (Say letter) a h = h
+no-lack P Q (Pass from to) a h = h
+no-lack P Q (Flush by) a h = h
+
+-- what was played where there was memory
+pub answered-as : (s t : Scene) (c : Command) (work : Work) (r : Reply) (a : Answer) → Outcome (lacks c r) (plays s c work) s t r → r ≡ Answered a → plays s c work ≡ record { scene = t; reply = Answered a }
+answered-as s t c work r a h e =
+    no-lack (t ≡ s) (plays s c work ≡ record { scene = t; reply = Answered a }) c a (subst (λ (x : Reply). Outcome (lacks c x) (plays s c work) s t x) e h)
 
 pub done-on : (s t : Scene) (c : Command) (work : Work) (r : Reply) → Outcome (lacks c r) (plays s c work) s t r → ∥ Reach (world s) ∥₁ → r ≡ Answered Done → Said c (world t)
 done-on s t c work r h q d =
-    let o : plays s c work ≡ record { scene = t; reply = Answered Done } =
-    no-lack (t ≡ s) (plays s c work ≡ record { scene = t; reply = Answered Done }) c (subst (λ (a : Reply). Outcome (lacks c a) (plays s c work) s t a) d h) in
+    let o = answered-as s t c work r Done h d in
     subst (λ (x : Out). Said c (world (x .scene))) o (fair s c work q .done (ap (λ (x : Out). x .reply) o))
+
+pub as-played : (s t : Scene) (c : Command) (work : Work) (r : Reply) → Outcome (lacks c r) (plays s c work) s t r → noMemory r ≡ false → plays s c work ≡ record { scene = t; reply = r }
+as-played s t c work (Answered a) h e = answered-as s t c work (Answered a) a h refl
+as-played s t c work NoMemory h e = clash (cc)
+
+pub lets-on : (s m t : Scene) (c : Command) (r : Reply) → Outcome (lacks c r) (plays m c noWork) m t r → noMemory r ≡ false → Lets s m → next m ≡ Some c → Lets s t
+lets-on s m t c r h e l n = subst (Lets s) (ap (λ (o : Out). o .scene) (as-played m t c noWork r h e)) (Lets.onward c l n)
 
 pub runs-on : (w v u : World) → Runs w v → Onward v u → Runs w u
 runs-on w v u p (inl t) = onward p t

@@ -11,15 +11,13 @@ use Rattle.coins.specs.declared.ids.LetterId.{LetterId}
 use Rattle.coins.specs.declared.mail.Mail.{Mail}
 use Rattle.helper_coins.specs.declared.holding.Holding.{Holding}
 use Rattle.coins.specs.Mails.{coinsIn}
-use Rattle.boss_coins.specs.Bosses.{newBoss}
-use Rattle.runs.specs.System.{crew}
 use Rattle.runs.specs.Letter.{view}
 use Rattle.stage.specs.declared.command.Command.{Command}
 use Rattle.stage.specs.declared.command.Command.the-variants.{Give, Share, Rest, Say, Pass}
 use Rattle.stage.specs.declared.command.Reply.{Reply}
 use Rattle.stage.specs.declared.command.Reply.the-variants.{Answered}
 use Rattle.coins.specs.Works.{noWork}
-use Rattle.stage.specs.Scenes.{Scene, world}
+use Rattle.stage.specs.Scenes.{Scene, opening, world}
 use Rattle.stage.specs.Plays.{Out, plays}
 
 -- what is seen: the last reply; the boss's counts; of each helper its coins, and whether it is at work; and the coins
@@ -41,9 +39,6 @@ pub record Part : Type 0 where
 pub record Case : Type 0 where
   pub helpers : ℕ
   pub parts : List Part
-
-abbrev pub opening : ℕ → Scene
-opening n = record { boss = newBoss; helpers = crew n; parcels = [] }
 
 abbrev pub playAll : Out → List Command → Out
 playAll o [] = o

@@ -166,6 +166,11 @@ nextOf s k i =
 abbrev pub next : Scene → Option Command
 next s = nextOf s (seekHelper (s .parcels) (length (s .helpers))) (seekHolder (s .helpers))
 
+-- Messages come by themselves, one after another, from one scene to another.
+pub data Lets : Scene → Scene → Type 0 where
+  still : {s : Scene} → Lets s s
+  onward : {s t : Scene} (c : Command) → Lets s t → next t ≡ Some c → Lets s (plays t c noWork .scene)
+
 -- nothing is under way, and no coins wait for a place
 pub record Settled (w : World) : Type 0 where
   pub empty : w .post ≡ []

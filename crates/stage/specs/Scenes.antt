@@ -13,7 +13,8 @@ use Rattle.coins.specs.declared.mail.Post.the-variants.{Nothing, Send}
 use Rattle.helper_coins.specs.declared.helper.Helper.{Helper}
 use Rattle.boss_coins.specs.declared.boss.Boss.{Boss}
 use Rattle.helper_coins.specs.Helpers.{seekWaiting}
-use Rattle.runs.specs.System.{World, onLine}
+use Rattle.boss_coins.specs.Bosses.{newBoss}
+use Rattle.runs.specs.System.{World, crew, onLine}
 use Rattle.runs.specs.Letter.{mailed, delayed}
 use Rattle.coins.specs.declared.work.Work.{Work}
 use Rattle.stage.specs.declared.parcel.Parcel.{Parcel}
@@ -23,6 +24,10 @@ pub record Scene : Type 0 where
   pub boss : Boss
   pub helpers : List Helper
   pub parcels : List Parcel
+
+-- nothing has happened yet, with so many helpers
+abbrev pub opening : ℕ → Scene
+opening n = record { boss = newBoss; helpers = crew n; parcels = [] }
 
 unfoldable pub mails : List Parcel → List Mail
 mails ps = map (λ p. p .mail) ps

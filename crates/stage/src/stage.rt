@@ -5,12 +5,13 @@ ghost use Prim.Native.Nat.{_<_, _≤_};
 ghost use lib.ListN.{length};
 ghost use Rattle.std.specs.Of.Vec.{vec-items};
 ghost use Rattle.std.specs.Results.{Cases as ByOk};
+ghost use Rattle.std.specs.declared.option.Option.the-variants.{None};
 ghost use Rattle.std.specs.declared.result.Result.the-variants.{Err};
 ghost use Rattle.helper_coins.specs.Helpers.{holdingOf};
-ghost use Rattle.runs.specs.System.{Reach, Runs, start, helperAt};
+ghost use Rattle.runs.specs.System.{Reach, Runs, helperAt};
 ghost use Rattle.runs.specs.Promise.{Promised};
-ghost use Rattle.stage.specs.Scenes.{world};
-ghost use Rattle.stage.specs.Plays.{plays, noMemory, lacks, Outcome, Onward, Said, Settled, Calmed};
+ghost use Rattle.stage.specs.Scenes.{opening, world};
+ghost use Rattle.stage.specs.Plays.{plays, noMemory, lacks, Outcome, Onward, Said, next, Lets, Settled, Calmed};
 ghost use Rattle.stage.specs.Tables.{scene};
 use crate::command::Command;
 use crate::command::Reply;
@@ -41,7 +42,7 @@ pub struct Stage {
 impl Stage {
     // A stage with so many helpers, up to 256, on which nothing has happened.
     pub fn new(heap: Global, n: u16) -> Result<Stage, Unstaged>
-        ensures made { λ r. ⌜ ByOk r (λ s. world (scene (s .table)) ≡ start n) (λ _. Unit {0}) ⌝ }
+        ensures made { λ r. ⌜ ByOk r (λ s. scene (s .table) ≡ opening n) (λ _. Unit {0}) ⌝ }
         ensures few { λ r. ⌜ (256 < n → r ≡ Err Unstaged.TooMany) ⌝ }
         ensures memory { λ r. ⌜ (n ≤ 256 → r ≡ Err Unstaged.TooMany → ⊥) ⌝ }
     {
@@ -67,6 +68,7 @@ impl Stage {
 
     // Lets messages come until none is left. Of what is quiet all coins are back then, so that say answers done.
     pub fn settle(&mut self) -> Reply
+        ensures does { λ r. ⌜ (noMemory r ≡ false → Lets (scene (now (self .entry) .table)) (scene (now (self .exit) .table)) × (next (scene (now (self .exit) .table)) ≡ None)) ⌝ }
         ensures goes { λ _. ⌜ Runs (world (scene (now (self .entry) .table))) (world (scene (now (self .exit) .table))) ⌝ }
         ensures promised { λ _. ⌜ Promised (world (scene (now (self .exit) .table))) ⌝ }
         ensures settled { λ r. ⌜ (noMemory r ≡ false → Settled (world (scene (now (self .exit) .table)))) ⌝ }

@@ -1,13 +1,10 @@
 // Boss, helpers and messages, and what each command does.
 ghost use mathlib.Core.Path.{_≡_};
 ghost use mathlib.Core.Bool.{false};
-ghost use mathlib.Core.List.{[]};
 ghost use Prim.Native.Nat.{_<_};
 ghost use Rattle.std.specs.Of.Vec.{vec-items, vec-len, vec-cap};
 ghost use Rattle.std.specs.Vec.{made};
-ghost use Rattle.runs.specs.System.{crew};
-ghost use Rattle.boss_coins.specs.Bosses.{newBoss};
-ghost use Rattle.stage.specs.Scenes.{sentOn};
+ghost use Rattle.stage.specs.Scenes.{opening, sentOn};
 ghost use Rattle.stage.specs.Plays.{taken, toHelper, toBoss, playGive, playShare, playRest, playSay, playFlush, playPass, plays, noMemory, lacks, Outcome, next};
 ghost use Rattle.stage.specs.Tables.{scene};
 use crate::command::Command;
@@ -45,7 +42,7 @@ fn refused(why: Refusal) -> Reply
 
 impl Table {
     pub(crate) fn new(heap: Global, n: u16) -> Result<Table, AllocError>
-        ensures { λ r. ⌜ made r (λ t. scene t ≡ record { boss = newBoss; helpers = crew n; parcels = [] }) ⌝ }
+        ensures { λ r. ⌜ made r (λ t. scene t ≡ opening n) ⌝ }
     {
         let mut helpers = Vec::new(heap);
         for i in 0..n {

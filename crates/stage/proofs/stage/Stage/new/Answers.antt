@@ -7,7 +7,7 @@ use Rattle.stage.proofs.stage.Stage.new.Needs as need
 
 pub returns-in-Ok : need.returns-in-Ok
 unfolding mails
-returns-in-Ok c = record { made = ap world (c .in-Ok .ensures tt); few = λ h. absurd (omega arith); memory = λ h e. let z : _≡_ {A = ℕ} 0 1 = cc in omega arith }
+returns-in-Ok c = record { made = c .in-Ok .ensures tt; few = λ h. absurd (omega arith); memory = λ h e. let z : _≡_ {A = ℕ} 0 1 = cc in omega arith }
 
 pub ghost-result : need.ghost-result
 unfolding mails

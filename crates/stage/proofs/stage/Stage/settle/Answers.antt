@@ -4,9 +4,9 @@ use Rattle.runs.proofs.Theorems.{promised-of}
 use Rattle.coins.specs.declared.work.Work.{Work}
 use Rattle.coins.specs.Works.{noWork}
 use Rattle.stage.specs.Scenes.{world}
-use Rattle.stage.specs.Plays.{plays, lacks, noMemory, Outcome}
+use Rattle.stage.specs.Plays.{plays, lacks, noMemory, Outcome, Lets}
 use Rattle.stage.specs.Tables.{scene}
-use Rattle.stage.proofs.Played.{runs-on}
+use Rattle.stage.proofs.Played.{runs-on, lets-on}
 use Rattle.stage.proofs.Settles.{falls, calm-on, settled, calmed}
 use Rattle.stage.proofs.stage.Stage.settle.Needs as need
 
@@ -18,7 +18,7 @@ played c =
     (c .none .ensures) (c .play .ensures .does)
 
 pub loop-command-holds : need.loop-command-holds
-loop-command-holds c = (still, λ letter pos q. q)
+loop-command-holds c = (Lets.still, still, λ letter pos q. q)
 
 pub loop-command-less : need.loop-command-less
 loop-command-less c =
@@ -26,16 +26,18 @@ loop-command-less c =
 
 pub loop-command-again : need.loop-command-again
 loop-command-again c = (
-  runs-on _ _ _ (c .loop-command .inv .0) (c .play .ensures .goes),
-  calm-on (world (scene (c .args .self .now .table))) (scene (c .loop-command .self .table)) (scene (c .play .last .self .table)) (c .in-Some .command) (c .play .result) (played c) (c .loop-command .self .reached) (sym (c .in-Some .ensures tt)) (c .loop-command .inv .1),
+  lets-on _ _ _ (c .in-Some .command) (c .play .result) (played c) (ap noMemory (c .in-rest-play .is)) (c .loop-command .inv .0) (sym (c .in-Some .ensures tt)),
+  runs-on _ _ _ (c .loop-command .inv .1) (c .play .ensures .goes),
+  calm-on (world (scene (c .args .self .now .table))) (scene (c .loop-command .self .table)) (scene (c .play .last .self .table)) (c .in-Some .command) (c .play .result) (played c) (c .loop-command .self .reached) (sym (c .in-Some .ensures tt)) (c .loop-command .inv .2),
 )
 
 pub returns : need.returns
 returns c =
     let s = settled (scene (c .loop-command .self .table)) (c .loop-command .self .reached) (sym (c .in-rest .ensures tt)) in
     record {
-      goes = c .loop-command .inv .0;
+      does = λ _. (c .loop-command .inv .0, sym (c .in-rest .ensures tt));
+      goes = c .loop-command .inv .1;
       promised = promised-of _ (c .loop-command .self .reached);
       settled = λ _. s;
-      calmed = λ _. calmed (world (scene (c .args .self .now .table))) (world (scene (c .loop-command .self .table))) (c .loop-command .self .reached) s (c .loop-command .inv .1);
+      calmed = λ _. calmed (world (scene (c .args .self .now .table))) (world (scene (c .loop-command .self .table))) (c .loop-command .self .reached) s (c .loop-command .inv .2);
     }

@@ -1,0 +1,2 @@
+mod Acted
+mod Headings
