@@ -9,6 +9,6 @@ unfoldable pub seek : List ℕ → ℕ → ℕ
 seek [] n = 0
 seek (x ∷ xs) n = cond (eqb x n) 0 (suc (seek xs n))
 
--- the place of a letter, or 64 where it has none
+-- the place of a letter among 64 numbers, or 64 where it has none
 abbrev pub place : List ℕ → ℕ → ℕ
 place numbers letter = cond (eqb letter 0) 64 (seek numbers letter)

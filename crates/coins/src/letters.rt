@@ -21,7 +21,7 @@ pub fn first(numbers: &[u32], number: u32) -> usize
     numbers.len()
 }
 
-// The place of a letter, or 64 where it has none.
+// The place of a letter among 64 numbers, or 64 where it has none. The number 0 is no letter.
 pub fn find(numbers: &[u32], letter: LetterId) -> usize
     ensures { λ r. ⌜ r ≡ place (now (numbers .entry)) (letter .number) ⌝ }
 {

@@ -21,13 +21,9 @@ headed-some : (rows : List ℕ) (n : ℕ) → n ≡ length rows → false ≡ eq
 headed-some [] n l e = absurd (eqb-false n 0 (sym e) l)
 headed-some (b ∷ bs) n l e = refl
 
-none-open : (letters : List ℕ) (n : ℕ) → n ≡ length letters → true ≡ eqb n 0 → orNone letters ≡ codes "no letter is open" ++ 10 ∷ []
-none-open [] n l e = refl
-none-open (b ∷ bs) n l e = absurd (omega (arith, eqb-true n 0 (sym e)))
-
-some-open : (letters : List ℕ) (n : ℕ) → n ≡ length letters → false ≡ eqb n 0 → orNone letters ≡ letters
-some-open [] n l e = absurd (eqb-false n 0 (sym e) l)
-some-open (b ∷ bs) n l e = refl
+pub none-open : (letters : List ℕ) → length letters ≡ 0 → orNone letters ≡ codes "no letter is open" ++ 10 ∷ []
+none-open [] e = refl
+none-open (b ∷ bs) e = absurd (omega arith)
 
 -- what was written to an empty list is all that is there
 pub from-none : (was now more : List ℕ) → was ≡ [] → Added was now more → now ≡ more
@@ -39,9 +35,3 @@ module _ (was rows all : List ℕ) (n : ℕ) (l : n ≡ length rows) (same : row
 
   pub with-rows : (mid now : List ℕ) → false ≡ eqb n 0 → Added was mid (codes "  from    to  kind       coins  bytes" ++ 10 ∷ []) → Added mid now rows → Added was now (headed all)
   with-rows mid now e a b = subst (Added was now) (sym (headed-some rows n l e) ∙ ap headed same) (then a b)
-
-  pub no-letters : (now : List ℕ) → true ≡ eqb n 0 → Added was now (codes "no letter is open" ++ 10 ∷ []) → Added was now (orNone all)
-  no-letters now e a = subst (Added was now) (sym (none-open rows n l e) ∙ ap orNone same) a
-
-  pub with-letters : (now : List ℕ) → false ≡ eqb n 0 → Added was now rows → Added was now (orNone all)
-  with-letters now e a = subst (Added was now) (sym (some-open rows n l e) ∙ ap orNone same) a

@@ -6,7 +6,7 @@ ghost use Rattle.text.specs.Growth.{Added};
 ghost use Prim.Native.Nat.{min};
 ghost use lib.ListN.{length};
 ghost use Rattle.stage.specs.Stages.{sceneOn};
-ghost use Rattle.rehearsal.specs.Tables.{coinsColumn, countsRow, workColumn, askedColumn, helperRow, nodeColumn, kindColumn, bytesColumn, mailRow, helperRows, rowOf, parcelRows, headed, letterTable, tableOf, tables, Sorted, Shown};
+ghost use Rattle.rehearsal.specs.Tables.{coinsColumn, countsRow, workColumn, askedColumn, helperRow, nodeColumn, kindColumn, bytesColumn, mailRow, helperRows, rowOf, parcelRows, headed, letterTable, tableOf, tables, orNone, Sorted, Shown};
 use boss_coins::boss::Boss;
 use coins::ids::BOSS;
 use coins::ids::LetterId;
@@ -30,12 +30,19 @@ pub(crate) fn push_stage(heap: Global, out: &mut Vec<u8>, stage: &Stage) -> Resu
     let numbers = open_letters(heap, stage.boss())?;
     let mut letters = Vec::new(heap);
     push_letters(heap, &mut letters, stage, &numbers)?;
-    if letters.is_empty() {
-        push_text(out, b"no letter is open\n")?;
-        return Ok(());
-    }
-    push_text(out, &letters)?;
+    push_text(out, or_none(&letters))?;
     Ok(())
+}
+
+// The letters, or a line that says that there are none.
+fn or_none(letters: &[u8]) -> &[u8]
+    ensures { λ r. ⌜ now r ≡ orNone (now (letters .entry)) ⌝ }
+{
+    if letters.is_empty() {
+        b"no letter is open\n"
+    } else {
+        letters
+    }
 }
 
 // The numbers of the letters that are open, in their order; behind zeros for the places that are free.
