@@ -1,4 +1,6 @@
 // Letters, messages and answers: what the boss and the helpers have in common.
+#![tactic(auto)]
+
 pub mod answer;
 pub mod ids;
 pub mod letters;

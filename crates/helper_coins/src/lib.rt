@@ -1,4 +1,5 @@
 // A helper's coins of all letters: what it takes, shares and sends back.
+#![tactic(auto)]
 pub mod helper;
 pub mod holding;
 mod purse;

@@ -1,4 +1,5 @@
 // Boss and helper whole: the coins, and over them the ends of their lines.
+#![tactic(auto)]
 pub mod boss;
 pub mod helper;
 pub mod receipt;

@@ -1,3 +1,4 @@
+#![tactic(auto)]
 pub mod command;
 
 pub fn nothing() -> u8 {
