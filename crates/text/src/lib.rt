@@ -1,5 +1,6 @@
 // Text as bytes: hexadecimal and decimal numbers, both ways.
 #![tactic(auto)]
+
 pub mod decimal;
 pub mod hex;
 pub mod plain;

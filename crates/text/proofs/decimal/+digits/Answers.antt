@@ -3,8 +3,8 @@ use Rattle.std.proofs.lemmas.List.{length_push}
 use Rattle.std.proofs.lemmas.Fmt.{decimal_digit, decimal_step, length-decimal-le}
 use Rattle.text.proofs.decimal.+digits.Goals as goal
 
-pub overflow-add-result : goal.overflow-add-result
-overflow-add-result t c =
+pub overflow_add-result : goal.overflow_add-result
+overflow_add-result t c =
     let small : c.args.number / 10 < 2 ^ 64 = omega arith in
     omega (arith, length-decimal-le 20 (c.args.number / 10) (omega arith) (omega arith) small)
 

@@ -1,39 +1,39 @@
 use Rattle.std.proofs.Common.{◌+◌, ◌-◌, ◌*◌, get_or, drop, sym, ◌∙◌, inl, inr, arith, rules}
 use Rattle.text.proofs.Values.{value_more, value_all, value_ge, digits_more, digits_no, digits_all, number_is, no_digits, too_big, too_long}
 use Rattle.text.proofs.decimal.number.Goals as goal
-use Rattle.text.proofs.decimal.number.Goals.{then-is-empty-via-then-is-empty, then-is-empty-via-else-is-empty+then-text-gt-LONGEST}
+use Rattle.text.proofs.decimal.number.Goals.{then-is_empty-via-then-is_empty, then-is_empty-via-else-is_empty+then-text-gt-LONGEST}
 
-pub returns-then-is-empty : goal.returns-then-is-empty
-returns-then-is-empty c =
-    elim c.then-is-empty.branch [
-      | then-is-empty-via-then-is-empty w ↦ sym (too_long c.args.text.now (inl (search rules)))
-      | then-is-empty-via-else-is-empty+then-text-gt-LONGEST w ↦ sym (too_long c.args.text.now (inr w.if-text-gt-LONGEST.true))
+pub returns-then-is_empty : goal.returns-then-is_empty
+returns-then-is_empty c =
+    elim c.then-is_empty.branch [
+      | then-is_empty-via-then-is_empty w ↦ sym (too_long c.args.text.now (inl (search rules)))
+      | then-is_empty-via-else-is_empty+then-text-gt-LONGEST w ↦ sym (too_long c.args.text.now (inr w.if-text-gt-LONGEST.true))
     ]
 
-pub returns-in-err-digit : goal.returns-in-err-digit
-returns-in-err-digit c =
-    rw c.from-residual.ensures
-    (sym (no_digits c.args.text.now (sym c.loop-byte.invariant.1 ∙ digits_no c.args.text.now c.loop-byte.byte-index (omega arith) c.in-err-digit.ensures)))
+pub returns-in_err-digit : goal.returns-in_err-digit
+returns-in_err-digit c =
+    rw c.from_residual.ensures
+    (sym (no_digits c.args.text.now (sym c.loop-byte.invariant.1 ∙ digits_no c.args.text.now c.loop-byte.byte-index (omega arith) c.in_err-digit.ensures)))
 
-pub returns-in-err-number : goal.returns-in-err-number
-returns-in-err-number c =
-    rw c.from-residual-in-err-number.ensures
+pub returns-in_err-number : goal.returns-in_err-number
+returns-in_err-number c =
+    rw c.from_residual-in_err-number.ensures
     (sym (too_big c.args.text.now (omega (
       arith,
       c.loop-byte.invariant.0,
       value_more c.loop-byte.number c.args.text.now c.loop-byte.byte-index (omega arith),
       value_ge (c.loop-byte.number * 10 + (get_or c.args.text.now c.loop-byte.byte-index 0 - 48)) (drop (c.loop-byte.byte-index + 1) c.args.text.now),
-      c.in-err-number.ensures,
-      c.in-ok-digit.ensures.1,
+      c.in_err-number.ensures,
+      c.in_ok-digit.ensures.1,
     ))))
 
 pub loop-byte-preserved : goal.loop-byte-preserved
 loop-byte-preserved c =
     let step = value_more c.loop-byte.number c.args.text.now c.loop-byte.byte-index (omega arith) in
-    let sum = c.in-ok-number.ensures.0 in
-    let digit = c.in-ok-digit.ensures.1 in
+    let sum = c.in_ok-number.ensures.0 in
+    let digit = c.in_ok-digit.ensures.1 in
     let before = c.loop-byte.invariant.0 in
-    (cc, sym (digits_more c.args.text.now c.loop-byte.byte-index (omega arith) c.in-ok-digit.ensures.0) ∙ c.loop-byte.invariant.1, c.in-ok-number.ensures.1)
+    (cc, sym (digits_more c.args.text.now c.loop-byte.byte-index (omega arith) c.in_ok-digit.ensures.0) ∙ c.loop-byte.invariant.1, c.in_ok-number.ensures.1)
 
 pub returns : goal.returns
 returns c =

@@ -7,10 +7,10 @@ pub loop-byte-preserved : goal.loop-byte-preserved
 loop-byte-preserved c =
     let bytes = c.args.bytes.now in
     let i = c.loop-byte.byte-index in
-    let pushed = c.in-ok-extend-from-slice.ensures.items in
+    let pushed = c.in_ok-extend_from_slice.ensures.items in
     let front = take_more bytes i 0 (omega arith) in
     let grouped = flat_map_more hex_pair (vec_items c.args.out.now) (take i bytes) (get_or bytes i 0) in
-    let all : vec_items c.extend-from-slice.new.self ≡ vec_items c.args.out.now ++ hex_of (take (i + 1) bytes) = cc in
+    let all : vec_items c.extend_from_slice.new.self ≡ vec_items c.args.out.now ++ hex_of (take (i + 1) bytes) = cc in
     all
 
 pub returns : goal.returns

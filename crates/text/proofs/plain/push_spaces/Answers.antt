@@ -7,7 +7,7 @@ pub loop-init : goal.loop-init
 loop-init c = sym (append-nil _)
 
 pub loop-preserved : goal.loop-preserved
-loop-preserved c = spaces_more _ _ _ c.loop.counter c.loop.invariant c.in-ok-push.ensures.items
+loop-preserved c = spaces_more _ _ _ c.loop.counter c.loop.invariant c.in_ok-push.ensures.items
 
 pub returns : goal.returns
 returns c = let e : c.loop.counter ≡ c.args.count = omega arith in record { is = rw e at c.loop.invariant }

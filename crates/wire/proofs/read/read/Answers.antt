@@ -2,14 +2,14 @@ use Rattle.std.proofs.Common.{rules}
 use Rattle.wire.specs.Bytes.{decode}
 use Rattle.wire.proofs.read.read.Goals as goal
 
-pub returns-then-not-is-whole : goal.returns-then-not-is-whole
+pub returns-then-not-is_whole : goal.returns-then-not-is_whole
 unfolding decode
-returns-then-not-is-whole c = search rules
+returns-then-not-is_whole c = search rules
 
-pub returns-then-is-fine : goal.returns-then-is-fine
+pub returns-then-is_fine : goal.returns-then-is_fine
 unfolding decode
-returns-then-is-fine c = search rules
+returns-then-is_fine c = search rules
 
-pub returns-else-is-fine : goal.returns-else-is-fine
+pub returns-else-is_fine : goal.returns-else-is_fine
 unfolding decode
-returns-else-is-fine c = search rules
+returns-else-is_fine c = search rules

@@ -7,4 +7,4 @@ use Rattle.wire.proofs.write.frame_of.Goals as goal
 pub returns : goal.returns
 unfolding encode number_bytes
 returns c =
-    (then c.put32.ensures.bytes (then c.put-ends.ensures.bytes (then c.put64.ensures.bytes c.put-body.ensures))).is [] c.empty-frame.ensures
+    (then c.put32.ensures.bytes (then c.put_ends.ensures.bytes (then c.put64.ensures.bytes c.put_body.ensures))).is [] c.empty-frame.ensures

@@ -6,4 +6,4 @@ use Rattle.wire.proofs.write.put32.Goals as goal
 pub returns : goal.returns
 unfolding number_bytes
 returns c =
-    record { bytes = same c.put.ensures.bytes (cc (div-one c.args.n)); len = omega (arith, ap length c.to-be-bytes.ensures) }
+    record { bytes = same c.put.ensures.bytes (cc (div-one c.args.n)); len = omega (arith, ap length c.to_be_bytes.ensures) }
