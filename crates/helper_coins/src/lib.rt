@@ -1,5 +1,6 @@
 // A helper's coins of all letters: what it takes, shares and sends back.
 #![tactic(auto)]
+
 pub mod helper;
 pub mod holding;
 mod purse;

@@ -1,6 +1,7 @@
 // Lines between nodes that lose, double, delay and reorder what is sent over them, put right by numbers: what they
 // promise to any protocol above them, and a node's ends of them.
 #![tactic(auto)]
+
 ghost use Rattle.lines.specs.Instance.{LinesAreFine};
 
 pub mod end;

@@ -50,15 +50,15 @@ module _ {X P : Type 0} where
 -- each kind of step, queue by queue
 module _ (w : Net) (I : Fine reading w) where
   pub call_is : (out : List (Sent Item)) (y : Crew) (i j : ℕ) → under (kept out w.line i j) ≡ queued out (perfect w).queue i j
-  call_is out y = call_queues out (lines.calls-above (OneCall out) NoTake reading w I out y refl)
+  call_is out y = call_queues out (lines.calls_above (OneCall out) NoTake reading w I out y refl)
 
   pub take_is : (f : Packet) (s r n : ℕ) (p : Item) (out : List (Sent Item)) (y : Crew) → Contains w.net f → reading f ≡ Numbered s r n p → n ≡ suc (w.line s r).taken →
       Took s r p out (perfect w) (record { above = y; queue = λ i j. under (kept out (at_pair s r take-one w.line) i j) })
-  take_is f s r n p out y h e k = take_queues s r p out (lines.takes-above NoCall (OneTake s r p out) reading w I f s r n p out y h e k (refl, refl, refl, refl))
+  take_is f s r n p out y h e k = take_queues s r p out (lines.takes_above NoCall (OneTake s r p out) reading w I f s r n p out y h e k (refl, refl, refl, refl))
 
   pub answer_above : (f : Packet) (s r n : ℕ) → Contains w.net f → reading f ≡ Answer s r n →
       ◌≡◌ {A = Perfect Crew Item} (record { above = w.above; queue = λ i j. under (at_pair s r (cut n) w.line i j) }) (perfect w)
-  answer_above f s r n h e = lines.answers-above Call Take reading w I f s r n h e
+  answer_above f s r n h e = lines.answers_above Call Take reading w I f s r n h e
 
   pub answer_is : (f : Packet) (s r n : ℕ) → Contains w.net f → reading f ≡ Answer s r n → (i j : ℕ) → under (at_pair s r (cut n) w.line i j) ≡ under (w.line i j)
   answer_is f s r n h e i j = ap (λ (x : Perfect Crew Item). x.queue i j) (answer_above f s r n h e)
@@ -92,7 +92,7 @@ pub mirrored : {w v : Net} → Runs NetStep w v → Fine reading w → (ms : Lis
 mirrored still I ms M = record { posts = ms; mirrors = M; runs = system.still }
 mirrored {w} {v} (onward r s) I ms M =
     let B = mirrored r I ms M in
-    elim (follows s (lines.runs-fine Call Take reading r I) B.posts B.mirrors) [
+    elim (follows s (lines.runs_fine Call Take reading r I) B.posts B.mirrors) [
       | inl F ↦ record { posts = F.after; mirrors = F.mirrors; runs = system.onward B.runs F.step }
       | inr e ↦ record { posts = B.posts; mirrors = unseen e.0 B.mirrors; runs = subst (λ (u : World). system.Runs (world w.above ms) u) (same_world B.posts e.0) B.runs }
     ]
@@ -135,7 +135,7 @@ opening_mirrors n few = record { reached = begin n few; lanes = λ i j. refl; se
 -- every reached network is fine, and has a mirror
 module _ {w : Net} (R : NetReach w) where
   pub net_fine : Fine reading w
-  net_fine = lines.runs-fine Call Take reading R.run (opening_fine R.size)
+  net_fine = lines.runs_fine Call Take reading R.run (opening_fine R.size)
 
   from_opening : Mirrored (opening R.size) w []
   from_opening = mirrored R.run (opening_fine R.size) [] (opening_mirrors R.size R.few)

@@ -1,5 +1,6 @@
 // The boss and the helpers over lossy lines whose frames are bytes: each promise stands on a function of its own.
 #![tactic(auto)]
+
 ghost use Rattle.network.specs.Bytes.{PacketsAreRead};
 ghost use Rattle.network.specs.Promise.{NetPromise, NetDoneStays, NetOnlyWorkWakes, NetQuietGoesOn, NetQuietIsSaid, LinesCarry, NetComesToBeSaid};
 

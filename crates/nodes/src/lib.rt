@@ -1,5 +1,6 @@
 // Boss and helper whole: the coins, and over them the ends of their lines.
 #![tactic(auto)]
+
 pub mod boss;
 pub mod helper;
 pub mod receipt;

@@ -1,5 +1,6 @@
 // Plays a script with a boss and helpers in memory: `rehearse [FILE]`.
 #![tactic(auto)]
+
 use anyhow::anyhow;
 use rehearsal::run::run;
 use std::io::BufReader;

@@ -121,8 +121,8 @@ start_order : (n : ℕ) → n ≤ 256 → Order (start n)
 start_order n few =
     record {
       few = omega (arith, crew_length n);
-      boss = book.tidy-new;
-      helpers = λ i l. subst (holder.Tidy i) (sym (crew_at n i (omega (arith, crew_length n)))) (holder.tidy-new i);
+      boss = book.tidy_new;
+      helpers = λ i l. subst (holder.Tidy i) (sym (crew_at n i (omega (arith, crew_length n)))) (holder.tidy_new i);
       numbered = tt;
     }
 
@@ -136,7 +136,7 @@ start_idle n m i pos =
 start_inv : (n m : ℕ) → 1 ≤ m → Inv (view m (start n))
 unfolding post_of under_way
 start_inv n m pos =
-    let e = book.new-live m pos in
+    let e = book.new_live m pos in
     record {
       kept = rw e (omega (arith, held_none (holdings_of m (crew n)) (λ i. ap (λ (h : Holding). h.coins) (start_idle n m i pos))));
       good = λ i b. absurd (let z = ap (λ (h : Holding). h.working) (start_idle n m i pos) in let y : ◌≡◌ {A = ℕ} 0 1 = cc in omega arith);

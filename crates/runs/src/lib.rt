@@ -1,5 +1,6 @@
 // Every run of a boss and helpers over lines that lose nothing: each promise stands on a function of its own.
 #![tactic(auto)]
+
 ghost use Rattle.runs.specs.Promise.{Promise, DoneStays, StepsAreMoves, LettersApart, OnlyWorkWakes, QuietGoesOn, QuietIsShort, QuietIsSaid};
 ghost use Rattle.runs.specs.Lines.{LinesAreQueues};
 

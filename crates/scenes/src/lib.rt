@@ -1,4 +1,5 @@
 #![tactic(auto)]
+
 pub mod command;
 
 pub fn nothing() -> u8 {
