@@ -1,7 +1,7 @@
 -- What holds of every world that is reached, by induction over its run.
 use Rattle.std.proofs.Common.{◌≡◌, ℕ, zero, suc, ◌+◌, ◌<◌, ◌≤◌, Bool, true, false, ◌⊎◌, List, [], ◌∷◌, ◌++◌, length, take, drop, All, sym, refl, ap, ◌∙◌, subst, inl, inr, arith}
 use Rattle.std.proofs.lemmas.List.{length_push, get_or_push, get_or_append_left, get_or_past}
-use Rattle.std.proofs.lemmas.List.Elements.{All-get_or}
+use Rattle.std.proofs.lemmas.List.Elements.{All-nil, All-head, All-tail, All-get_or}
 use Rattle.std.proofs.lemmas.Bool.{eq-eqb}
 use Rattle.std.proofs.lemmas.Bool.Decides.{eqb_tells, leb_tells}
 use Rattle.coins.specs.declared.mail.Mail.{Mail}
@@ -31,8 +31,8 @@ pub record Whole (w : World) : Type 0 where
   pub inv : (n : ℕ) → 1 ≤ n → Inv (view n w)
 
 all_mid : (P : Mail → Type 0) (a b : List Mail) (m : Mail) → All P (a ++ m ∷ b) → P m
-all_mid P [] b m h = h.0
-all_mid P (x ∷ a) b m h = all_mid P a b m h.1
+all_mid P [] b m h = All-head P m b h
+all_mid P (x ∷ a) b m h = all_mid P a b m (All-tail P x (a ++ m ∷ b) h)
 
 module _ (w : World) (W : Whole w) (k : ℕ) (l : k < length w.post) where
   pub letter_pos : 1 ≤ (mail_at w.post k).letter.number
@@ -123,7 +123,7 @@ start_order n few =
       few = omega (arith, crew_length n);
       boss = book.tidy_new;
       helpers = λ i l. subst (holder.Tidy i) (sym (crew_at n i (omega (arith, crew_length n)))) (holder.tidy_new i);
-      numbered = tt;
+      numbered = All-nil (λ (m : Mail). 1 ≤ m.letter.number);
     }
 
 start_idle : (n m i : ℕ) → 1 ≤ m → holding_at (holdings_of m (crew n)) i ≡ idle
@@ -140,7 +140,7 @@ start_inv n m pos =
     record {
       kept = rw e (omega (arith, held_none (holdings_of m (crew n)) (λ i. ap (λ (h : Holding). h.coins) (start_idle n m i pos))));
       good = λ i b. absurd (let z = ap (λ (h : Holding). h.working) (start_idle n m i pos) in let y : ◌≡◌ {A = ℕ} 0 1 = cc in omega arith);
-      fine = tt;
+      fine = All-nil _;
       shut = λ _. (rw e, rw e);
       over = λ _. e;
       few = rw e (omega arith);

@@ -1,6 +1,6 @@
 -- Laws of what is counted over messages and over helpers, and of one helper's change.
 use Rattle.std.proofs.Common.{◌≡◌, ℕ, zero, suc, ◌+◌, ◌<◌, ◌≤◌, Bool, true, false, List, [], ◌∷◌, ◌++◌, length, set, All, sum_by, refl, arith}
-use Rattle.std.proofs.lemmas.List.Elements.{All-push}
+use Rattle.std.proofs.lemmas.List.Elements.{All-cons, All-head, All-tail, All-push}
 use Rattle.std.proofs.lemmas.List.{append-nil}
 use Rattle.std.proofs.lemmas.List.Sums.{sum_by-cons, sum_by-set, get_or-le-sum_by}
 use Rattle.coins.specs.declared.mail.Kind.{Kind}
@@ -24,8 +24,9 @@ sum_split f [] b x = sum_by-cons f x b
 sum_split f (y ∷ a) b x = omega (arith, sum_by-cons f y (a ++ x ∷ b), sum_by-cons f y (a ++ b), sum_split f a b x)
 
 all_split : {X : Type 0} (P : X → Type 0) (a b : List X) (x : X) → All P (a ++ x ∷ b) → P x × All P (a ++ b)
-all_split P [] b x h = h
-all_split P (y ∷ a) b x h = let r = all_split P a b x h.1 in (r.0, (h.0, r.1))
+all_split P [] b x h = (All-head P x b h, All-tail P x b h)
+all_split P (y ∷ a) b x h =
+    let r = all_split P a b x (All-tail P y (a ++ x ∷ b) h) in (r.0, All-cons P y (a ++ b) (All-head P y (a ++ x ∷ b) h) r.1)
 
 -- Messages, one of them apart: all pass a test P that goes by kinds, and are counted by kinds.
 pub record Apart (P : Mail → Kind → Type 0) (f : Kind → ℕ) (count : List Mail → ℕ) (m : Mail) (k : Kind) (rest whole : List Mail) : Type 0 where

@@ -1,5 +1,5 @@
 -- A letter on which nobody is at work: it stays so, little comes, and all coins are back at last.
-use Rattle.std.proofs.Common.{◌≡◌, ℕ, ◌+◌, ◌<◌, ◌≤◌, false, List, [], ◌∷◌, ◌++◌, length, All, refl, ap, arith}
+use Rattle.std.proofs.Common.{get_or, ◌≡◌, ℕ, ◌+◌, ◌<◌, ◌≤◌, false, List, [], ◌∷◌, ◌++◌, length, All, refl, ap, arith}
 use Rattle.std.proofs.lemmas.List.Elements.{All-from_get_or}
 use Rattle.std.proofs.lemmas.List.Sums.{sum_by-le}
 use Rattle.std.proofs.lemmas.Bool.Decides.{nat_tests}
@@ -94,6 +94,6 @@ unfolding mailed delayed
 short v =
     omega (
       arith,
-      sum_by-le (λ m. weigh m.kind) 4 v.post (All-from_get_or _ v.post no_mail (λ i _. weigh_le _)),
-      sum_by-le delay 2 v.holdings (All-from_get_or _ v.holdings idle (λ i _. delay_le (holding_at v.holdings i))),
+      sum_by-le (λ m. weigh m.kind) 4 v.post (All-from_get_or (λ m. weigh m.kind ≤ 4) v.post no_mail (λ i _. weigh_le (get_or v.post i no_mail).kind)),
+      sum_by-le delay 2 v.holdings (All-from_get_or (λ h. delay h ≤ 2) v.holdings idle (λ i _. delay_le (holding_at v.holdings i))),
     )
