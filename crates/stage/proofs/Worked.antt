@@ -1,10 +1,11 @@
 -- The worked cases, computed.
 use Rattle.std.proofs.Common.{refl}
+use Rattle.std.proofs.lemmas.List.Elements.{All-from_recursion}
 use Rattle.coins.specs.Letters.{seek}
 use Rattle.runs.specs.System.{crew, head}
 use Rattle.runs.specs.Letter.{holdings_of, post_of}
 use Rattle.stage.specs.Scenes.{mails, room}
-use Rattle.stage.specs.Cases.{CasesHold, Holds, sharing, asking, resting}
+use Rattle.stage.specs.Cases.{CasesHold, cases, Holds, sharing, asking, resting}
 
 share_holds : Holds sharing
 unfolding seek crew head holdings_of post_of mails room
@@ -19,4 +20,4 @@ unfolding seek crew head holdings_of post_of mails room
 rest_holds = (refl, (refl, (refl, (refl, tt))))
 
 pub cases_hold : CasesHold
-cases_hold = (share_holds, (ask_holds, (rest_holds, tt)))
+cases_hold = All-from_recursion Holds cases (share_holds, (ask_holds, (rest_holds, tt)))

@@ -7,6 +7,6 @@ pub returns-in-Ok : goal.returns-in-Ok
 unfolding mails
 returns-in-Ok c = record { made = c.in-Ok.ensures; few = λ h. absurd (omega arith); memory = λ h e. let z : ◌≡◌ {A = ℕ} 0 1 = cc in omega arith }
 
-pub invariant-of-result : goal.invariant-of-result
+pub invariant_of-result : goal.invariant_of-result
 unfolding mails
-invariant-of-result c = (∣ subst Reach (sym (ap world c.in-Ok.ensures)) (begin c.args.n (omega arith)) ∣₁, tt)
+invariant_of-result c = record { reached = ∣ subst Reach (sym (ap world c.in-Ok.ensures)) (begin c.args.n (omega arith)) ∣₁ }

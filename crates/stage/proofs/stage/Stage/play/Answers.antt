@@ -2,8 +2,8 @@ use Rattle.runs.proofs.Theorems.{promised_of}
 use Rattle.stage.proofs.Played.{goes_on, reach_on, done_on}
 use Rattle.stage.proofs.stage.Stage.play.Goals as goal
 
-pub invariant-of-self : goal.invariant-of-self
-invariant-of-self c = (reach_on _ _ c.args.command c.args.work c.play.result c.play.ensures c.args.self.now.reached, tt)
+pub invariant_of-self : goal.invariant_of-self
+invariant_of-self c = record { reached = reach_on _ _ c.args.command c.args.work c.play.result c.play.ensures c.args.self.now.reached }
 
 pub returns : goal.returns
 returns c =

@@ -7,4 +7,4 @@ unfolding crew
 loop-i-init c = c.new-helpers.ensures.items
 
 pub loop-i-preserved : goal.loop-i-preserved
-loop-i-preserved c = let e = crew_more c.loop-i.i in let p = c.in-ok-push.ensures.items in cc
+loop-i-preserved c = let e = crew_more c.loop-i.i in let p = c.in_ok-push.ensures.items in cc
