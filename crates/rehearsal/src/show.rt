@@ -42,7 +42,7 @@ fn open_letters(heap: Global, boss: &Boss) -> Result<Vec<u32>, AllocError>
     ensures { IfOk result (λ v. Sorted boss.now.letters v.items) }
 {
     let mut numbers = Vec::from_slice(heap, boss.letters())?;
-    numbers.sort();
+    numbers.sort_unstable();
     Ok(numbers)
 }
 

@@ -2,9 +2,9 @@ use Rattle.std.proofs.Common.{rules}
 use Rattle.script.specs.Parts.{is_to, number_in}
 use Rattle.script.proofs.parts.number_to.Goals as goal
 
-pub returns-in-err-n : goal.returns-in-err-n
+pub returns-in_err-n : goal.returns-in_err-n
 unfolding is_to number_in
-returns-in-err-n c = search rules
+returns-in_err-n c = search rules
 
 pub returns-then-n-most : goal.returns-then-n-most
 unfolding is_to number_in

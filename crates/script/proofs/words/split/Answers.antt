@@ -6,10 +6,10 @@ use Rattle.script.proofs.words.split.Goals as goal
 pub returns : goal.returns
 unfolding has_word
 returns c =
-    let both = words_from c.args.text.now _ _ _ _ _ c.leading.ensures.value c.split-at.ensures.back c.leading-2.ensures.value c.split-at-2.ensures.front c.split-at-2.ensures.back in
+    let both = words_from c.args.text.now _ _ _ _ _ c.leading.ensures.value c.split_at.ensures.back c.leading-2.ensures.value c.split_at-2.ensures.front c.split_at-2.ensures.back in
     let some : has_word c.args.text.now ≡ true = search rules in
     (some, both.0, both.1)
 
-pub returns-then-is-empty : goal.returns-then-is-empty
+pub returns-then-is_empty : goal.returns-then-is_empty
 unfolding has_word
-returns-then-is-empty c = search rules
+returns-then-is_empty c = search rules
