@@ -3,5 +3,5 @@ use Rattle.rehearsal.proofs.answer.push_refusal.Goals as goal
 
 pub returns : goal.returns
 returns c =
-    let number = rw c.number.ensures at c.in-ok-push-number.ensures in
-    then c.in-ok-push-text.ensures (then number c.in-ok-push-text-2.ensures)
+    let number = rw c.number.ensures at c.in_ok-push_number.ensures in
+    then c.in_ok-push_text.ensures (then number c.in_ok-push_text-2.ensures)

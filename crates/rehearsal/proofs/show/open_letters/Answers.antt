@@ -5,9 +5,9 @@ use Rattle.rehearsal.proofs.show.open_letters.Goals as goal
 
 pub returns : goal.returns
 returns c =
-    let copied : vec_items c.in-ok-numbers.numbers ≡ c.letters.result.now = c.in-ok-numbers.ensures.items in
+    let copied : vec_items c.in_ok-numbers.numbers ≡ c.letters.result.now = c.in_ok-numbers.ensures.items in
     let read : c.letters.result.now ≡ c.args.boss.now.letters = c.letters.ensures in
     record {
-      same = subst (λ (xs : List ℕ). IsPermutation xs (vec_items c.sort.new.self)) (copied ∙ read) c.sort.ensures.permutation;
-      rising = IsNonDecreasingBy-from_sort (λ x. x) _ _ (sym c.sort.new.self.ok.0 ∙ c.sort.ensures.len) c.sort.ensures.sorted;
+      same = subst (λ (xs : List ℕ). IsPermutation xs (vec_items c.sort_unstable.new.self)) (copied ∙ read) c.sort_unstable.ensures.permutation;
+      rising = IsNonDecreasingBy-from_sort (λ x. x) _ c.sort_unstable.ensures.sorted;
     }

@@ -3,5 +3,5 @@ use Rattle.std.proofs.lemmas.Bool.{eqb-true}
 use Rattle.rehearsal.proofs.Headings.{none_open}
 use Rattle.rehearsal.proofs.show.or_none.Goals as goal
 
-pub returns-then-is-empty : goal.returns-then-is-empty
-returns-then-is-empty c = sym (none_open c.args.letters.now (eqb-true _ 0 (sym c.if-is-empty.ensures)))
+pub returns-then-is_empty : goal.returns-then-is_empty
+returns-then-is_empty c = sym (none_open c.args.letters.now (eqb-true _ 0 (sym c.if-is_empty.ensures)))

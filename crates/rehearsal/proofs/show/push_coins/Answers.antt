@@ -4,4 +4,4 @@ use Rattle.rehearsal.proofs.show.push_coins.Goals as goal
 
 pub returns : goal.returns
 unfolding coins_column
-returns c = then c.in-ok-push-text.ensures c.in-ok-push-aligned.ensures
+returns c = then c.in_ok-push_text.ensures c.in_ok-push_aligned.ensures

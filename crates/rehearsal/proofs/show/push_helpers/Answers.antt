@@ -18,5 +18,5 @@ loop-i-preserved c =
     let n : c.helpers.result ≡ length hs = c.helpers.ensures in
     let lt : i < length hs = search rules in
     let row : List ℕ = helper_row (record { number = i }) (holding_of (helper_at hs i) letter.number) in
-    let pushed : vec_items c.push-helper.new.out ≡ vec_items c.loop-i.out ++ row = rw (c.holding.ensures lt) at c.in-ok-push-helper.ensures.is in
+    let pushed : vec_items c.push_helper.new.out ≡ vec_items c.loop-i.out ++ row = rw (c.holding.ensures lt) at c.in_ok-push_helper.ensures.is in
     rw (add-one i) (pushed ∙ ap (λ xs. xs ++ row) c.loop-i.invariant ∙ append_assoc (vec_items c.args.out.now) (helper_rows hs letter i) row)

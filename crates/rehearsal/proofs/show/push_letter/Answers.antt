@@ -5,6 +5,6 @@ use Rattle.rehearsal.proofs.show.push_letter.Goals as goal
 pub returns : goal.returns
 unfolding letter_table
 returns c =
-    let counts = rw (c.given.ensures, c.back.ensures, c.boss-boss.ensures) at c.in-ok-push-counts.ensures in
-    let under = rw c.parcels.ensures at c.in-ok-push-parcels.ensures in
-    then counts (then c.in-ok-push-text.ensures (then c.in-ok-push-helpers.ensures under))
+    let counts = rw (c.given.ensures, c.back.ensures, c.boss-boss.ensures) at c.in_ok-push_counts.ensures in
+    let under = rw c.parcels.ensures at c.in_ok-push_parcels.ensures in
+    then counts (then c.in_ok-push_text.ensures (then c.in_ok-push_helpers.ensures under))

@@ -13,10 +13,10 @@ unfolding tables
 loop-number-preserved c =
     let ns = c.args.numbers.now in
     let i = c.loop-number.number-index in
-    let pushed = c.in-ok-push-open.ensures.is in
+    let pushed = c.in_ok-push_open.ensures.is in
     let front = take_more ns i 0 (omega arith) in
     let grouped = flat_map_more (table_of (scene_on c.args.stage.now)) (vec_items c.args.out.now) (take i ns) (get_or ns i 0) in
-    let all : vec_items c.push-open.new.out ≡ vec_items c.args.out.now ++ tables (scene_on c.args.stage.now) (take (i + 1) ns) = cc in
+    let all : vec_items c.push_open.new.out ≡ vec_items c.args.out.now ++ tables (scene_on c.args.stage.now) (take (i + 1) ns) = cc in
     all
 
 pub returns : goal.returns

@@ -5,7 +5,7 @@ use Rattle.rehearsal.proofs.show.push_mail.Goals as goal
 pub returns : goal.returns
 unfolding mail_row
 returns c =
-    let kind = rw c.kind-column.ensures at c.in-ok-push-text.ensures in
-    let coins = rw c.coins.ensures at c.in-ok-push-coins.ensures in
-    then c.in-ok-push-node.ensures (then c.in-ok-push-node-2.ensures
-    (then kind (then coins (then c.in-ok-push-bytes.ensures c.in-ok-push-text-2.ensures))))
+    let kind = rw c.kind_column.ensures at c.in_ok-push_text.ensures in
+    let coins = rw c.coins.ensures at c.in_ok-push_coins.ensures in
+    then c.in_ok-push_node.ensures (then c.in_ok-push_node-2.ensures
+    (then kind (then coins (then c.in_ok-push_bytes.ensures c.in_ok-push_text-2.ensures))))

@@ -2,10 +2,10 @@ use Rattle.std.proofs.Common.{rules}
 use Rattle.rehearsal.specs.Tables.{node_column}
 use Rattle.rehearsal.proofs.show.push_node.Goals as goal
 
-pub returns-in-ok-push-text : goal.returns-in-ok-push-text
+pub returns-in_ok-push_text : goal.returns-in_ok-push_text
 unfolding node_column
-returns-in-ok-push-text c = search rules
+returns-in_ok-push_text c = search rules
 
-pub returns-in-ok-push-aligned : goal.returns-in-ok-push-aligned
+pub returns-in_ok-push_aligned : goal.returns-in_ok-push_aligned
 unfolding node_column
-returns-in-ok-push-aligned c = search rules
+returns-in_ok-push_aligned c = search rules

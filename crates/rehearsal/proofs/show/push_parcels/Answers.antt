@@ -5,10 +5,10 @@ use Rattle.rehearsal.proofs.show.push_parcels.Goals as goal
 
 pub returns : goal.returns
 returns c =
-    let rows = vec_items c.push-rows.new.out in
+    let rows = vec_items c.push_rows.new.out in
     let read : c.deref.result.now ≡ rows = c.deref.ensures.value in
-    with_rows _ rows _ _ c.push-rows.new.out.ok.0 (from_none _ _ _ c.new-rows.ensures.items c.in-ok-push-rows.ensures) _ _ c.if-is-empty.ensures c.in-ok-push-text.ensures
-    (subst (Added (vec_items c.push-text.new.out) (vec_items c.push-text-2.new.out)) read c.in-ok-push-text-2.ensures)
+    with_rows _ rows _ _ c.push_rows.new.out.ok.0 (from_none _ _ _ c.new-rows.ensures.items c.in_ok-push_rows.ensures) _ _ c.if-is_empty.ensures c.in_ok-push_text.ensures
+    (subst (Added (vec_items c.push_text.new.out) (vec_items c.push_text-2.new.out)) read c.in_ok-push_text-2.ensures)
 
-pub returns-then-is-empty : goal.returns-then-is-empty
-returns-then-is-empty c = no_rows _ _ _ _ c.push-rows.new.out.ok.0 (from_none _ _ _ c.new-rows.ensures.items c.in-ok-push-rows.ensures) c.if-is-empty.ensures
+pub returns-then-is_empty : goal.returns-then-is_empty
+returns-then-is_empty c = no_rows _ _ _ _ c.push_rows.new.out.ok.0 (from_none _ _ _ c.new-rows.ensures.items c.in_ok-push_rows.ensures) c.if-is_empty.ensures

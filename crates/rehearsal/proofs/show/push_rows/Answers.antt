@@ -13,10 +13,10 @@ unfolding parcel_rows
 loop-parcel-preserved c =
     let ps = c.args.parcels.now in
     let i = c.loop-parcel.parcel-index in
-    let pushed = c.in-ok-push-row.ensures.is in
+    let pushed = c.in_ok-push_row.ensures.is in
     let front = take_more ps i no_parcel (omega arith) in
     let grouped = flat_map_more (row_of c.args.letter) (vec_items c.args.out.now) (take i ps) (get_or ps i no_parcel) in
-    let all : vec_items c.push-row.new.out ≡ vec_items c.args.out.now ++ parcel_rows c.args.letter (take (i + 1) ps) = cc in
+    let all : vec_items c.push_row.new.out ≡ vec_items c.args.out.now ++ parcel_rows c.args.letter (take (i + 1) ps) = cc in
     all
 
 pub returns : goal.returns
