@@ -1,6 +1,6 @@
 -- Searches and counts along a list, one place on.
 use Rattle.std.proofs.Common.{◌≡◌, ℕ, suc, ◌+◌, ◌-◌, ◌<◌, ◌≤◌, true, false, ltb, List, [], ◌∷◌, ◌++◌, length, get_or, take, drop, sym, refl, ap, ◌∙◌, add-one, arith}
-use Rattle.std.proofs.lemmas.List.{at_drop_more, at_drop_all, take_at, take_all, get_or-map, get_or_read, length-map}
+use Rattle.std.proofs.lemmas.List.{at_drop_more, at_drop_all, take_all, get_or-map, get_or_read, length-map}
 use Rattle.std.proofs.lemmas.List.Sums.{count_by_more_yes, count_by_more_no}
 use Rattle.coins.specs.declared.ids.NodeId.{NodeId}
 use Rattle.helper_coins.specs.declared.helper.Helper.{Helper}

@@ -13,7 +13,7 @@ use Rattle.stage.specs.declared.command.Command.TheVariants.{Give, Share, Rest, 
 use Rattle.stage.specs.declared.command.Reply.{Reply}
 use Rattle.stage.specs.declared.command.Reply.TheVariants.{Answered}
 use Rattle.coins.specs.Works.{no_work}
-use Rattle.stage.specs.Scenes.{Scene, opening, world}
+use Rattle.stage.specs.Scenes.{opening, world}
 use Rattle.stage.specs.Plays.{Out, plays}
 
 -- what is seen: the last reply; the boss's counts; of each helper its coins, and whether it is at work; and the coins

@@ -1,4 +1,3 @@
-use Rattle.std.proofs.Common.{rules}
 use Rattle.rehearsal.proofs.Acted.{at_start}
 use Rattle.rehearsal.proofs.rehearsal.staged.Goals as goal
 

@@ -1,4 +1,4 @@
-use Rattle.std.proofs.Common.{◌≡◌, ℕ, ◌+◌, ◌<◌, List, ◌++◌, length, vec_items, ap, ◌∙◌, append_assoc, add-one, arith, rules}
+use Rattle.std.proofs.Common.{◌≡◌, ℕ, ◌<◌, List, ◌++◌, length, vec_items, ap, ◌∙◌, append_assoc, add-one, rules}
 use Rattle.helper_coins.specs.Helpers.{holding_of}
 use Rattle.runs.specs.System.{helper_at}
 use Rattle.stage.specs.Stages.{scene_on}

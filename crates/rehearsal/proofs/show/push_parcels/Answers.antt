@@ -1,4 +1,4 @@
-use Rattle.std.proofs.Common.{◌≡◌, ℕ, List, vec_items, subst}
+use Rattle.std.proofs.Common.{◌≡◌, vec_items, subst}
 use Rattle.text.specs.Growth.{Added}
 use Rattle.rehearsal.proofs.Headings.{from_none, no_rows, with_rows}
 use Rattle.rehearsal.proofs.show.push_parcels.Goals as goal
