@@ -3,7 +3,7 @@ use Rattle.std.proofs.Common.{◌≡◌, ℕ, ◌+◌, ◌-◌, ◌<◌, ◌≤�
 use Rattle.std.proofs.lemmas.List.{take_at}
 use Rattle.std.proofs.lemmas.Bool.Decides.{nat_tests}
 use Rattle.coins.specs.declared.parcel.Parcel.{Parcel}
-use Rattle.lines.specs.Ends.{End, last_sent, released, answered_up_to}
+use Rattle.lines.specs.Ends.{End, last_sent, answered_up_to}
 
 -- a list is turned round, and then its end is cut off
 pub turned : (xs ys zs : List Parcel) (k n : ℕ) → n ≡ length xs → k ≤ n → ys ≡ drop k xs ++ take k xs → zs ≡ take (n - k) ys → zs ≡ drop k xs

@@ -1,5 +1,5 @@
 -- What is fine stays fine, and numbers only grow.
-use Rattle.std.proofs.Common.{◌≡◌, ℕ, suc, ◌≤◌, ◌⊎◌, List, Contains, inl, inr, arith}
+use Rattle.std.proofs.Common.{◌≡◌, ℕ, suc, ◌≤◌, List, Contains, arith}
 use Rattle.std.proofs.lemmas.List.Elements.{All-contains, All-weaker}
 use Rattle.lines.specs.Perfect.{Sent, at_pair, from_to}
 use Rattle.lines.specs.Lossy.{Line, Reading, Numbered, Answer, Nothing, Lossy, keep, kept, take-one, cut, Waits, Grows, Sound, Fine, LossyStep, calls, drifts, takes, answers}

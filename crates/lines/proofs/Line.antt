@@ -2,7 +2,7 @@
 use Rattle.std.proofs.Common.{◌≡◌, ℕ, suc, ◌+◌, ◌-◌, ◌≤◌, List, ◌∷◌, ◌++◌, length, drop, sym, ap, ◌∙◌, inl, inr, append_assoc, arith, length-append, length-drop}
 use Rattle.std.proofs.lemmas.Bool.Decides.{leb_tells}
 use Rattle.std.proofs.lemmas.List.{drop-drop, drop_at, drop-append-le}
-use Rattle.lines.specs.Lossy.{Line, posted, under, keep, take-one, cut, Waits, Known, Ordered, Grows}
+use Rattle.lines.specs.Lossy.{Line, under, keep, take-one, cut, Waits, Known, Ordered, Grows}
 
 module _ {P : Type 0} where
   -- numbers only grow

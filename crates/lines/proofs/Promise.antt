@@ -1,8 +1,9 @@
 -- Lossy lines are perfect lines.
 use Rattle.std.proofs.Common.{◌≡◌, ℕ, suc, ◌⊎◌, List, [], ◌++◌, Contains, sym, refl, ap, ◌∙◌, subst, inl, inr, arith}
+use Rattle.std.proofs.lemmas.List.Elements.{All-nil}
 use Rattle.lines.specs.Runs.{Runs, still, onward}
 use Rattle.lines.specs.Perfect.{Sent, at_pair, from_to, queued, Perfect, PerfectStep, called, came}
-use Rattle.lines.specs.Lossy.{Line, Reading, Numbered, Answer, Lossy, under, kept, take-one, cut, Ordered, Grows, view, Fine, LossyStep, calls, drifts, takes, answers}
+use Rattle.lines.specs.Lossy.{Line, Reading, Numbered, Answer, Lossy, under, kept, take-one, cut, Ordered, Grows, Sound, view, Fine, LossyStep, calls, drifts, takes, answers}
 use Rattle.lines.specs.Promise.{Fresh, Promise}
 use Rattle.lines.proofs.Pairs.{by_pair, by_pairs}
 use Rattle.lines.proofs.Line.{grows_not, grows_on, under_keep, under_cut, under_next, under_take}
@@ -19,7 +20,7 @@ kept_queued out q f o e s r = ap (λ ps. ps ++ from_to s r out) (e s r) ∙ sym 
 -- a fresh world
 module _ {X P F : Type 0} (read : F → Reading P) (w : Lossy X P F) (new : Fresh w) where
   pub fresh_fine : Fine read w
-  fresh_fine = record { lines = λ s r. rw (new.lines s r) (record { low = omega arith; high = omega arith }); frames = rw new.net tt }
+  fresh_fine = record { lines = λ s r. rw (new.lines s r) (record { low = omega arith; high = omega arith }); frames = rw new.net (All-nil (λ f. Sound w.line (read f))) }
 
   pub fresh_view : view w ≡ record { above = w.above; queue = λ s r. [] }
   fresh_view = same_perfect w.above (λ s r. under (w.line s r)) (λ s r. []) (λ s r. ap under (new.lines s r))

@@ -1,5 +1,5 @@
 -- One end of a line, as one node has it: what it keeps of what it sent, and how far it took what came.
-use Rattle.std.specs.Prelude.{ℕ, suc, ◌+◌, ◌-◌, Bool, cond, List, [], ◌∷◌, ◌++◌, length, drop, ◌==◌, nat_le, nat_lt, slice_index_or}
+use Rattle.std.specs.Prelude.{ℕ, suc, ◌+◌, ◌-◌, cond, List, [], ◌∷◌, ◌++◌, length, drop, ◌==◌, nat_le, nat_lt, slice_index_or}
 use Rattle.coins.specs.declared.parcel.Parcel.{Parcel}
 use Rattle.coins.specs.Limits.{limit}
 use Rattle.lines.specs.declared.end.Standing.{Standing}

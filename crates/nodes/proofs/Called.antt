@@ -1,5 +1,5 @@
 -- What was sent by a step that had a place for it.
-use Rattle.std.proofs.Common.{◌≡◌, ℕ, zero, suc, Bool, true, false, cond, List, [], ◌∷◌, ◌++◌, length, take, set, vec_items, Vec, sym, refl, ap, ◌∙◌}
+use Rattle.std.proofs.Common.{◌≡◌, ℕ, zero, suc, Bool, true, cond, List, [], ◌∷◌, ◌++◌, length, take, set, vec_items, Vec, sym, refl, ap, ◌∙◌}
 use Rattle.std.specs.declared.alloc.Global.{Global}
 use Rattle.std.proofs.lemmas.List.{take_at}
 use Rattle.coins.specs.declared.ids.NodeId.{NodeId}
@@ -14,7 +14,7 @@ use Rattle.lines.specs.Packets.{answer_of, kept_for, out_for, Grew}
 use Rattle.lines.specs.Viewed.{ends_of, can_send}
 use Rattle.nodes.specs.declared.receipt.Receipt.TheVariants.{Took as IsTaken}
 use Rattle.nodes.specs.declared.receipt.Reply.TheVariants.{Answered}
-use Rattle.nodes.specs.Arrivals.{Node, Replied, Received, room_to, called, took_from, after_taking}
+use Rattle.nodes.specs.Arrivals.{room_to, called, took_from, after_taking}
 use Rattle.coins.specs.declared.mail.Taking.TheVariants.{Took}
 
 -- what `send` leaves: es and os are the ends and what had gone out when it was called

@@ -1,5 +1,5 @@
 -- What a step sends has a place: steps send only where there is one.
-use Rattle.std.proofs.Common.{◌≡◌, ℕ, ◌+◌, ◌<◌, Bool, true, false, cond, ◌&&◌, ◌||◌, eqb, ltb, leb, get_or, vec_len, vec_capacity, Vec, sym, refl, ap, ◌∙◌, subst, arith}
+use Rattle.std.proofs.Common.{◌≡◌, ℕ, ◌+◌, ◌<◌, Bool, true, ◌&&◌, ◌||◌, eqb, ltb, leb, get_or, vec_len, vec_capacity, Vec, refl, subst, arith}
 use Rattle.std.specs.declared.alloc.Global.{Global}
 use Rattle.std.proofs.lemmas.Bool.Decides.{nat_tests}
 use Rattle.std.proofs.lemmas.Bool.{eqb-false}
@@ -7,19 +7,16 @@ use Rattle.coins.specs.declared.ids.LetterId.{LetterId}
 use Rattle.coins.specs.declared.ids.NodeId.{NodeId}
 use Rattle.coins.specs.declared.mail.Kind.{Kind}
 use Rattle.coins.specs.declared.mail.Kind.TheVariants.{Work, More, Back, NoMore, Ask}
-use Rattle.coins.specs.declared.mail.Mail.{Mail}
-use Rattle.coins.specs.declared.mail.Post.{Post}
-use Rattle.coins.specs.declared.mail.Post.TheVariants.{Nothing, Send}
 use Rattle.coins.specs.declared.mail.Taking.{Taking}
 use Rattle.coins.specs.declared.mail.Taking.TheVariants.{Took, Later, Refused}
 use Rattle.coins.specs.Limits.{grant, limit}
 use Rattle.coins.specs.Letters.{seek, place}
 use Rattle.coins.proofs.Tests.{by_test}
 use Rattle.boss_coins.specs.declared.boss.Boss.{Boss}
-use Rattle.boss_coins.specs.Bosses.{Called, TookIn, give_step, give_open, give_new, give_at, receive_step, ask_step}
+use Rattle.boss_coins.specs.Bosses.{Called, TookIn, give_step, receive_step}
 use Rattle.lines.specs.declared.ends.LineEnds.{LineEnds}
 use Rattle.lines.specs.declared.packet.Packet.{Packet}
-use Rattle.lines.specs.Ends.{slot, end_at, room_of}
+use Rattle.lines.specs.Ends.{slot}
 use Rattle.lines.specs.Viewed.{ends_of, ready, can_send}
 use Rattle.nodes.specs.Arrivals.{room_to}
 

@@ -1,5 +1,5 @@
 -- Every step of the boss with its lines.
-use Rattle.std.specs.Prelude.{ℕ, List, [], ◌++◌, replicate}
+use Rattle.std.specs.Prelude.{ℕ, List, ◌++◌, replicate}
 use Rattle.coins.specs.declared.answer.Answer.TheVariants.{Fine}
 use Rattle.coins.specs.declared.ids.LetterId.{LetterId}
 use Rattle.coins.specs.declared.ids.NodeId.{NodeId}

@@ -1,7 +1,7 @@
 -- What follows of reader and writer together.
-use Rattle.std.proofs.Common.{◌≡◌, ℕ, ◌+◌, ◌^◌, ◌<◌, true, List, ◌∷◌, ◌++◌, length, get_or, take, drop, Some, None, Option, sym, refl, ap, ◌∙◌, arith}
+use Rattle.std.proofs.Common.{◌≡◌, ℕ, ◌+◌, ◌^◌, ◌<◌, true, List, [], ◌∷◌, ◌++◌, length, get_or, take, drop, Some, None, Option, sym, refl, ap, ◌∙◌, arith}
 use Rattle.std.proofs.lemmas.List.{take-append-drop, drop_more}
-use Rattle.std.proofs.lemmas.List.Elements.{All-append, All-take}
+use Rattle.std.proofs.lemmas.List.Elements.{All-append, All-take, All-nil, All-cons}
 use Rattle.coins.specs.declared.mail.Kind.TheVariants.{Work, More, Back, NoMore, Ask}
 use Rattle.coins.specs.declared.parcel.Parcel.{Parcel}
 use Rattle.wire.specs.declared.message.Body.{Body}
@@ -18,17 +18,20 @@ use Rattle.wire.proofs.Framing.{frame_bytes_framed}
 use Rattle.wire.proofs.Writing.{written_is_read, nothing_behind}
 use Rattle.wire.proofs.Reading.{read_is_written}
 
--- bytes in front of bytes
+-- a byte, and bytes, in front of bytes
+after : (b : ℕ) (bs : List ℕ) → b < 256 → AllBytes bs → AllBytes (b ∷ bs)
+after b bs l h = All-cons (λ x. x < 256) b bs l h
+
 in_front : (w n : ℕ) (ys : List ℕ) → AllBytes ys → AllBytes (number_bytes w n ++ ys)
 in_front w n ys h = All-append (λ b. b < 256) (number_bytes w n) ys (all_number_bytes w n) h
 
 all_tail : (b : Body) (w : List ℕ) → AllBytes w → AllBytes (body_number b ∷ rest b w)
-all_tail (Numbered (Work c)) w h = (omega arith, in_front 8 c (number_bytes 2 (length w) ++ w) (in_front 2 (length w) w h))
-all_tail (Numbered (More c)) w h = (omega arith, all_number_bytes 8 c)
-all_tail (Numbered (Back c)) w h = (omega arith, all_number_bytes 8 c)
-all_tail (Numbered NoMore) w h = (omega arith, all_number_bytes 8 0)
-all_tail (Numbered Ask) w h = (omega arith, tt)
-all_tail Taken w h = (omega arith, tt)
+all_tail (Numbered (Work c)) w h = after _ _ (omega arith) (in_front 8 c (number_bytes 2 (length w) ++ w) (in_front 2 (length w) w h))
+all_tail (Numbered (More c)) w h = after _ _ (omega arith) (all_number_bytes 8 c)
+all_tail (Numbered (Back c)) w h = after _ _ (omega arith) (all_number_bytes 8 c)
+all_tail (Numbered NoMore) w h = after _ _ (omega arith) (all_number_bytes 8 0)
+all_tail (Numbered Ask) w h = after 4 [] (omega arith) (All-nil (λ b. b < 256))
+all_tail Taken w h = after 5 [] (omega arith) (All-nil (λ b. b < 256))
 
 -- what is written are bytes
 pub all_encode : (m : Msg) → AllBytes m.work → AllBytes (encode m)
@@ -63,4 +66,4 @@ taken_read s r n o = frame_read (taken_msg s r n) o
 
 -- an acknowledgement between two nodes can be
 pub taken_sound : (s r n : ℕ) → goes s r Taken ≡ true → n < 2 ^ 64 → Sound (taken_msg s r n)
-taken_sound s r n g h = record { letter_fits = omega arith; number_fits = h; coins_fit = omega arith; goes_so = g; paid = refl; short = omega arith; bytes = tt; bare = λ _. refl }
+taken_sound s r n g h = record { letter_fits = omega arith; number_fits = h; coins_fit = omega arith; goes_so = g; paid = refl; short = omega arith; bytes = All-nil (λ b. b < 256); bare = λ _. refl }

@@ -3,7 +3,7 @@ use Rattle.std.proofs.Common.{◌≡◌, ℕ, zero, suc, ◌+◌, ◌*◌, ◌/�
 use native.Mathlib.Nat.{mod-one, mul-add-div_right, mul-add-mod_self_right, pow-succ', one-le-pow}
 use lib.Arith.{mod-mul, digits_lt, digits_div}
 use Rattle.std.proofs.lemmas.List.{drop_more, get_or_past}
-use Rattle.std.proofs.lemmas.List.Elements.{All-get_or}
+use Rattle.std.proofs.lemmas.List.Elements.{All-get_or, All-nil, All-cons}
 use Rattle.std.proofs.lemmas.Bool.{cases_lt}
 use Rattle.wire.specs.Numbers.{number_bytes, number_at}
 use Rattle.wire.specs.Rules.{AllBytes}
@@ -18,8 +18,8 @@ length_number_bytes (suc w) n = ap suc (length_number_bytes w n)
 
 pub all_number_bytes : (w n : ℕ) → AllBytes (number_bytes w n)
 unfolding number_bytes
-all_number_bytes zero n = tt
-all_number_bytes (suc w) n = (mod-lt (n / 256 ^ w) (omega arith), all_number_bytes w n)
+all_number_bytes zero n = All-nil (λ b. b < 256)
+all_number_bytes (suc w) n = All-cons (λ b. b < 256) (n / 256 ^ w % 256) (number_bytes w n) (mod-lt (n / 256 ^ w) (omega arith)) (all_number_bytes w n)
 
 -- what stands before the place does not matter
 number_at_behind : (w b : ℕ) (bs : List ℕ) (i : ℕ) → number_at w (b ∷ bs) (i + 1) ≡ number_at w bs i

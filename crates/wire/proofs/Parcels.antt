@@ -1,6 +1,7 @@
 -- Parcels that can be sent.
 use Rattle.std.proofs.Common.{◌≡◌, ℕ, ◌^◌, ◌<◌, ◌≤◌, true, false, [], length, refl, arith, length-take}
 use Rattle.std.proofs.lemmas.Bool.{true≢false}
+use Rattle.std.proofs.lemmas.List.Elements.{All-nil}
 use Rattle.coins.specs.Mails.{coins_in}
 use Rattle.coins.specs.Parcels.{bytes_for, parcel_of}
 use Rattle.coins.specs.Works.{bytes_of}
@@ -14,10 +15,10 @@ use Rattle.wire.specs.Rules.{Sound, AllBytes, goes, is_paid, has_work}
 
 all_for : (k : Kind) (w : Work) → AllBytes (bytes_of w) → AllBytes (bytes_of (bytes_for k w))
 all_for (Works c) w h = h
-all_for (More c) w h = tt
-all_for (Back c) w h = tt
-all_for NoMore w h = tt
-all_for Ask w h = tt
+all_for (More c) w h = All-nil (λ b. b < 256)
+all_for (Back c) w h = All-nil (λ b. b < 256)
+all_for NoMore w h = All-nil (λ b. b < 256)
+all_for Ask w h = All-nil (λ b. b < 256)
 
 bare_for : (k : Kind) (w : Work) → has_work (Numbered k) ≡ false → bytes_of (bytes_for k w) ≡ []
 bare_for (Works c) w f = absurd (true≢false f)

@@ -1,4 +1,4 @@
-use Rattle.std.proofs.Common.{◌≡◌, ◌++◌, take, vec_items, sym, ap, ◌∙◌, append-nil, arith}
+use Rattle.std.proofs.Common.{vec_items, sym, append-nil, arith}
 use Rattle.std.proofs.lemmas.List.{take_all}
 use Rattle.lines.specs.Packets.{resent}
 use Rattle.lines.proofs.Resends.{frames_more}

@@ -5,8 +5,8 @@ use Rattle.lines.proofs.ends.LineEnds.keep.Goals as goal
 pub returns : goal.returns
 returns c =
     let s = c.slot.ensures in
-    let i = c.index-mut.ensures.value in
+    let i = c.index_mut.ensures.value in
     record {
-      done = keeps_there c.args.self.now c.args.peer.number c.slot.result c.index-mut.result.now s i c.keep.result c.keep.ensures.done;
-      after = kept_there c.args.self.now c.args.peer.number c.slot.result c.index-mut.result.now s i c.keep.new.self (parcel_of c.args.mail c.args.work) c.keep.result c.keep.ensures.after;
+      done = keeps_there c.args.self.now c.args.peer.number c.slot.result c.index_mut.result.now s i c.keep.result c.keep.ensures.done;
+      after = kept_there c.args.self.now c.args.peer.number c.slot.result c.index_mut.result.now s i c.keep.new.self (parcel_of c.args.mail c.args.work) c.keep.result c.keep.ensures.after;
     }

@@ -4,4 +4,4 @@ use Rattle.lines.specs.Viewed.{ends_in}
 use Rattle.lines.proofs.ends.LineEnds.new.Given as goal
 
 abbrev pub invariant-loop-i : goal.invariant-loop-i
-invariant-loop-i l = (ends_in (vec_items l.ends) ≡ replicate l.«-i» fresh_end) × (vec_len l.ends ≡ l.«-i»)
+invariant-loop-i l = (ends_in (vec_items l.ends) ≡ replicate l._i fresh_end) × (vec_len l.ends ≡ l._i)

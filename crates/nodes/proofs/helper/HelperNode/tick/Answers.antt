@@ -1,4 +1,4 @@
-use Rattle.std.proofs.Common.{List, vec_items, sym, refl, ap, ◌∙◌, subst}
+use Rattle.std.proofs.Common.{List, vec_items, sym, refl, ◌∙◌, subst}
 use Rattle.lines.specs.declared.packet.Packet.{Packet}
 use Rattle.lines.specs.Packets.{Grew}
 use Rattle.nodes.proofs.Called.{taken_back}
