@@ -2,7 +2,7 @@
 use Rattle.std.proofs.Common.{◌≡◌, ℕ, suc, ◌+◌, ◌-◌, ◌≤◌, List, ◌∷◌, ◌++◌, length, drop, sym, ap, ◌∙◌, inl, inr, append_assoc, arith, length-append, length-drop}
 use Rattle.std.proofs.lemmas.Bool.Decides.{leb_tells}
 use Rattle.std.proofs.lemmas.List.{drop-drop, drop_at, drop-append-le}
-use Rattle.lines.specs.Lossy.{Line, under, keep, take-one, cut, Waits, Known, Ordered, Grows}
+use Rattle.lines.specs.Lossy.{Line, under, keep, take_one, cut, Waits, Known, Ordered, Grows}
 
 module _ {P : Type 0} where
   -- numbers only grow
@@ -15,7 +15,7 @@ module _ {P : Type 0} where
   pub grows_keep : (ps : List P) (l : Line P) → Grows l (keep ps l)
   grows_keep ps l = record { answered = omega arith; taken = omega arith; posted = simp length-append (omega arith) }
 
-  pub grows_take : (l : Line P) → Grows l (take-one l)
+  pub grows_take : (l : Line P) → Grows l (take_one l)
   grows_take l = record { answered = omega arith; taken = omega arith; posted = omega arith }
 
   pub grows_cut : (n : ℕ) (l : Line P) → Grows l (cut n l)
@@ -40,10 +40,10 @@ module _ {P : Type 0} where
       known n p (inl h) = inl h
       known n p (inr a) = inr (record { front = a.front; back = a.back ++ ps; parts = rw a.parts (append_assoc a.front (p ∷ a.back) ps); number = a.number })
 
-  pub next_take : (i : ℕ) (p : P) (l : Line P) → Waits i p l → i ≡ suc l.taken → Ordered l → Next l (take-one l)
+  pub next_take : (i : ℕ) (p : P) (l : Line P) → Waits i p l → i ≡ suc l.taken → Ordered l → Next l (take_one l)
   next_take i p l a e o = record { ordered = record { low = omega (arith, o.low); high = omega (arith, a.number, length-append a.front (p ∷ a.back), ap length a.parts) }; grows = grows_take l; known = known }
     where
-      known : (n : ℕ) (q : P) → Known n q l → Known n q (take-one l)
+      known : (n : ℕ) (q : P) → Known n q l → Known n q (take_one l)
       known n q (inl h) = inl (omega arith)
       known n q (inr b) = inr (record { front = b.front; back = b.back; parts = b.parts; number = b.number })
 
@@ -70,7 +70,7 @@ module _ {P : Type 0} where
   pub under_next : (n : ℕ) (p : P) (l : Line P) (a : Waits n p l) → n ≡ suc l.taken → under l ≡ p ∷ a.back
   under_next n p l a e = rw a.parts (drop_at a.front (p ∷ a.back) (l.taken - l.answered) (omega (arith, a.number)))
 
-  pub under_take : (n : ℕ) (p : P) (l : Line P) (a : Waits n p l) → n ≡ suc l.taken → under (take-one l) ≡ a.back
+  pub under_take : (n : ℕ) (p : P) (l : Line P) (a : Waits n p l) → n ≡ suc l.taken → under (take_one l) ≡ a.back
   under_take n p l a e =
       ap (λ k. drop k l.waiting) (omega (arith, a.number)) ∙ (sym (drop-drop 1 (l.taken - l.answered) l.waiting) ∙ ap (drop 1) (under_next n p l a e))
 

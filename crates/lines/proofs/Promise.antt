@@ -3,7 +3,7 @@ use Rattle.std.proofs.Common.{◌≡◌, ℕ, suc, ◌⊎◌, List, [], ◌++◌
 use Rattle.std.proofs.lemmas.List.Elements.{All-nil}
 use Rattle.lines.specs.Runs.{Runs, still, onward}
 use Rattle.lines.specs.Perfect.{Sent, at_pair, from_to, queued, Perfect, PerfectStep, called, came}
-use Rattle.lines.specs.Lossy.{Line, Reading, Numbered, Answer, Lossy, under, kept, take-one, cut, Ordered, Grows, Sound, view, Fine, LossyStep, calls, drifts, takes, answers}
+use Rattle.lines.specs.Lossy.{Line, Reading, Numbered, Answer, Lossy, under, kept, take_one, cut, Ordered, Grows, Sound, view, Fine, LossyStep, calls, drifts, takes, answers}
 use Rattle.lines.specs.Promise.{Fresh, Promise}
 use Rattle.lines.proofs.Pairs.{by_pair, by_pairs}
 use Rattle.lines.proofs.Line.{grows_not, grows_on, under_keep, under_cut, under_next, under_take}
@@ -32,12 +32,12 @@ module _ {X P F : Type 0} (Call : X → List (Sent P) → X → Type 0) (Take : 
       subst (PerfectStep Call Take (view w)) (same_perfect y (queued out (view w).queue) (λ s r. under (kept out w.line s r)) (kept_queued out (view w).queue w.line I.lines (λ s r. refl)))
       (called (view w) out y c)
 
-  pub takes_above : (f : F) (s r n : ℕ) (p : P) (out : List (Sent P)) (y : X) → Contains w.net f → read f ≡ Numbered s r n p → n ≡ suc (w.line s r).taken → Take w.above s r p out y → PerfectStep Call Take (view w) (record { above = y; queue = λ i j. under (kept out (at_pair s r take-one w.line) i j) })
+  pub takes_above : (f : F) (s r n : ℕ) (p : P) (out : List (Sent P)) (y : X) → Contains w.net f → read f ≡ Numbered s r n p → n ≡ suc (w.line s r).taken → Take w.above s r p out y → PerfectStep Call Take (view w) (record { above = y; queue = λ i j. under (kept out (at_pair s r take_one w.line) i j) })
   takes_above f s r n p out y h e k t =
       let a = waits read w I f s r n p h e k in
-      let g : ℕ → ℕ → Line P = at_pair s r take-one w.line in
+      let g : ℕ → ℕ → Line P = at_pair s r take_one w.line in
       let q : ℕ → ℕ → List P = at_pair s r (λ _. a.back) (view w).queue in
-      let tail : (i j : ℕ) → q i j ≡ under (g i j) = λ i j. by_pairs (λ ps l. ps ≡ under l) s r i j (λ _. a.back) (view w).queue take-one w.line (λ es er. rw (es, er) (sym (under_take n p (w.line s r) a k))) refl in
+      let tail : (i j : ℕ) → q i j ≡ under (g i j) = λ i j. by_pairs (λ ps l. ps ≡ under l) s r i j (λ _. a.back) (view w).queue take_one w.line (λ es er. rw (es, er) (sym (under_take n p (w.line s r) a k))) refl in
       subst (PerfectStep Call Take (view w)) (same_perfect y (queued out q) (λ i j. under (kept out g i j)) (kept_queued out q g (λ i j. (next_take_at read w I s r n p a k i j).ordered) tail))
       (came (view w) s r p a.back out y (under_next n p (w.line s r) a k) t)
 

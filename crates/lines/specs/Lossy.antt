@@ -38,8 +38,8 @@ module _ {P : Type 0} where
   abbrev pub keep : List P → Line P → Line P
   keep ps l = record { answered = l.answered; waiting = l.waiting ++ ps; taken = l.taken }
 
-  abbrev pub take-one : Line P → Line P
-  take-one l = record { answered = l.answered; waiting = l.waiting; taken = suc l.taken }
+  abbrev pub take_one : Line P → Line P
+  take_one l = record { answered = l.answered; waiting = l.waiting; taken = suc l.taken }
 
   -- all up to n is answered for; an answer that is late cuts nothing
   abbrev pub cut : ℕ → Line P → Line P
@@ -99,7 +99,7 @@ module _ {X P F : Type 0} (Call : X → List (Sent P) → X → Type 0) (Take : 
         LossyStep w (record { above = w.above; line = w.line; net = net })
     -- a frame with the next number comes, and is taken; it may come again
     takes : (w : Lossy X P F) (f : F) (s r n : ℕ) (p : P) (out : List (Sent P)) (y : X) → Contains w.net f → read f ≡ Numbered s r n p → n ≡ suc (w.line s r).taken → Take w.above s r p out y →
-        LossyStep w (record { above = y; line = kept out (at_pair s r take-one w.line); net = w.net })
+        LossyStep w (record { above = y; line = kept out (at_pair s r take_one w.line); net = w.net })
     -- an answer comes, and what it answers for is kept no more
     answers : (w : Lossy X P F) (f : F) (s r n : ℕ) → Contains w.net f → read f ≡ Answer s r n →
         LossyStep w (record { above = w.above; line = at_pair s r (cut n) w.line; net = w.net })

@@ -7,7 +7,7 @@ use Rattle.runs.specs.Promise as promise
 use Rattle.lines.specs.Runs.{Runs, still, onward}
 use Rattle.lines.specs.Perfect.{Sent, at_pair, queued, Perfect, PerfectStep, called, came}
 use Rattle.lines.specs.declared.packet.Packet.{Packet}
-use Rattle.lines.specs.Lossy.{Numbered, Answer, under, kept, take-one, cut, Fine, calls, drifts, takes, answers}
+use Rattle.lines.specs.Lossy.{Numbered, Answer, under, kept, take_one, cut, Fine, calls, drifts, takes, answers}
 use Rattle.lines.specs.Lossy.{view as perfect}
 use Rattle.lines.proofs.Promise as lines
 use Rattle.network.specs.Above.{Crew, Item, Call, Take}
@@ -53,7 +53,7 @@ module _ (w : Net) (I : Fine reading w) where
   call_is out y = call_queues out (lines.calls_above (OneCall out) NoTake reading w I out y refl)
 
   pub take_is : (f : Packet) (s r n : ℕ) (p : Item) (out : List (Sent Item)) (y : Crew) → Contains w.net f → reading f ≡ Numbered s r n p → n ≡ suc (w.line s r).taken →
-      Took s r p out (perfect w) (record { above = y; queue = λ i j. under (kept out (at_pair s r take-one w.line) i j) })
+      Took s r p out (perfect w) (record { above = y; queue = λ i j. under (kept out (at_pair s r take_one w.line) i j) })
   take_is f s r n p out y h e k = take_queues s r p out (lines.takes_above NoCall (OneTake s r p out) reading w I f s r n p out y h e k (refl, refl, refl, refl))
 
   pub answer_above : (f : Packet) (s r n : ℕ) → Contains w.net f → reading f ≡ Answer s r n →
@@ -72,7 +72,7 @@ follows (calls w out y c) I ms M = inl (called_moved (perfect w) ms (λ i j. und
 follows (drifts w net h) I ms M = inr (refl, λ _. refl)
 follows (takes w f s r n p out y h e k t) I ms M =
     let T = take_is w I f s r n p out y h e k in
-    inl (came_moved (perfect w) (λ i j. under (kept out (at_pair s r take-one w.line) i j)) y s r p T.behind out t T.queues ms M T.first)
+    inl (came_moved (perfect w) (λ i j. under (kept out (at_pair s r take_one w.line) i j)) y s r p T.behind out t T.queues ms M T.first)
 follows (answers w f s r n h e) I ms M = inr (answer_above w I f s r n h e, λ _. refl)
 
 -- what is not seen from above leaves the mirror as it is

@@ -47,7 +47,7 @@ less (returns v m c a b e to k) g q = came_less (returns v m c a b e to k) g q (
 less (says v l e) g q = inr refl
 less (skips v l) g q = inr refl
 
-step_less : {w v : World} (s : Step w v) → Reach w → (n : ℕ) → 1 ≤ n → promise.isGive n s ≡ false → Quiet (view n w) → Less (view n w) (view n v)
+step_less : {w v : World} (s : Step w v) → Reach w → (n : ℕ) → 1 ≤ n → promise.is_give n s ≡ false → Quiet (view n w) → Less (view n w) (view n v)
 step_less s R n pos g q = elim (see s (always R) n pos) [ inl t ↦ less t.move (t.giving_is ∙ g) q | inr e ↦ inr (ap (λ (u : View). u.holdings) e.0) ]
 
 -- the same over lossy lines

@@ -10,7 +10,7 @@ use Rattle.runs.specs.Letter.{view, is_of, post_of}
 use Rattle.runs.proofs.Tables.{both_true}
 use Rattle.lines.specs.Ends.{slot}
 use Rattle.lines.specs.Perfect.{at_pair, from_to}
-use Rattle.lines.specs.Lossy.{Line, posted, under, kept, take-one, cut, Ordered, Fine, calls, drifts, takes, answers}
+use Rattle.lines.specs.Lossy.{Line, posted, under, kept, take_one, cut, Ordered, Fine, calls, drifts, takes, answers}
 use Rattle.lines.specs.Lossy.{view as perfect}
 use Rattle.network.specs.Above.{Item}
 use Rattle.network.specs.Bytes.{reading}
@@ -79,11 +79,11 @@ module _ (letter s r k : ℕ) where
           let same = both_true (eqb s i) (eqb r j) u in
           one (first_waits w v p T.behind (from_to s r out) W (rw (eqb-true s i same.0, eqb-true r j same.1) T.first)
           (T.queues s r ∙ ap (λ (b : Bool). cond b T.behind (under (w.line s r)) ++ from_to s r out) u)
-          (ap (λ (b : Bool). (cond b (take-one (w.line s r)) (w.line s r)).taken) u))
+          (ap (λ (b : Bool). (cond b (take_one (w.line s r)) (w.line s r)).taken) u))
       go false u =
           inr (more_waits w v (from_to s r out) W
           (T.queues s r ∙ ap (λ (b : Bool). cond b T.behind (under (w.line s r)) ++ from_to s r out) u)
-          (ap (λ (b : Bool). (cond b (take-one (w.line s r)) (w.line s r)).taken) u))
+          (ap (λ (b : Bool). (cond b (take_one (w.line s r)) (w.line s r)).taken) u))
   waits_on {v = v} (answers w f i j n h e) I W = inr (more_waits w v [] W (answer_is w I f i j n h e s r ∙ sym (append-nil (under (w.line s r)))) (same_taken (eqb s i && eqb r j)))
     where
       same_taken : (b : Bool) → (cond b (cut n (w.line s r)) (w.line s r)).taken ≡ (w.line s r).taken

@@ -72,15 +72,15 @@ module _ (w : World) (W : Whole w) where
         live_if m pos (omega (arith, tidy.used j lj pos, ap (λ (h : Holding). h.coins) e, coins_at (view m w) i (W.inv m pos)))
 
     -- the place on the boss's table of each of the helper's letters, and of the one that has come
-    abbrev desk-place : ℕ → ℕ
-    desk-place j = cond (eqb j 64) (seek desk n) (seek desk (get_or who.letters j 0))
+    abbrev desk_place : ℕ → ℕ
+    desk_place j = cond (eqb j 64) (seek desk n) (seek desk (get_or who.letters j 0))
 
     crowded : ((j : ℕ) → j < 64 → 1 ≤ get_or (helper_at w.helpers i).letters j 0) → ((j : ℕ) → j < 64 → get_or (helper_at w.helpers i).letters j 0 ≡ n → ⊥) → ⊥
     crowded full new =
-        pigeons 64 desk-place
+        pigeons 64 desk_place
         (λ j lj. by_test (λ p. p < 64) (eqb j 64) (seek desk n) (seek desk (get_or who.letters j 0)) (λ _. letter_live)
         (λ e. let ne = eqb-false j 64 e in let lj' : j < 64 = omega arith in slot_live j lj' (full j lj')))
-        (λ a b la lb. by_test (λ p. p ≡ desk-place b → a ≡ b) (eqb a 64) (seek desk n) (seek desk (get_or who.letters a 0))
+        (λ a b la lb. by_test (λ p. p ≡ desk_place b → a ≡ b) (eqb a 64) (seek desk n) (seek desk (get_or who.letters a 0))
         (λ e. by_test (λ p. seek desk n ≡ p → a ≡ b) (eqb b 64) (seek desk n) (seek desk (get_or who.letters b 0))
         (λ f _. eqb-true a 64 e ∙ sym (eqb-true b 64 f))
         (λ f q. absurd (let ne = eqb-false b 64 f in let lb' : b < 64 = omega arith in new b lb' (sym (one n (get_or who.letters b 0) letter_live (slot_live b lb' (full b lb')) q)))))
