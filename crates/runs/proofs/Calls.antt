@@ -65,11 +65,11 @@ module _ (w : World) (O : Order w) (i : ℕ) (lt : i < length w.helpers) where
   some_coins : (n : ℕ) → place (helper_at w.helpers i).letters n < 64 → 1 ≤ (at (helper_at w.helpers i).holdings (place (helper_at w.helpers i).letters n)).coins
   some_coins n l = tidy.used (place (helper_at w.helpers i).letters n) l (omega (arith, own i (helper_at w.helpers i) tidy n l, placed (helper_at w.helpers i).letters n l))
 
-  abbrev Called-well : ℕ → Called → Type 0
-  Called-well n d = Did n false 0 w (helper_did w i d.helper d.outcome.post)
+  abbrev CalledWell : ℕ → Called → Type 0
+  CalledWell n d = Did n false 0 w (helper_did w i d.helper d.outcome.post)
 
   share_at_moves : (letter : LetterId) (to : NodeId) (peer boss : ℕ) → to.number < length w.helpers → place (helper_at w.helpers i).letters letter.number < 64 →
-      Called-well letter.number (share_at who letter to peer boss (place who.letters letter.number) (at who.holdings (place who.letters letter.number)))
+      CalledWell letter.number (share_at who letter to peer boss (place who.letters letter.number) (at who.holdings (place who.letters letter.number)))
   share_at_moves letter to peer boss lj l =
       by_test P x.working _ _
       (λ bz. by_test P (ltb x.coins 2) _ _
@@ -92,7 +92,7 @@ module _ (w : World) (O : Order w) (i : ℕ) (lt : i < length w.helpers) where
       x = at h.holdings (place h.letters n)
 
       P : Called → Type 0
-      P d = Called-well n d
+      P d = CalledWell n d
 
       pos : 1 ≤ n
       pos = placed h.letters n l
@@ -103,8 +103,8 @@ module _ (w : World) (O : Order w) (i : ℕ) (lt : i < length w.helpers) where
   pub share_did : (letter : LetterId) (to : NodeId) (peer boss : ℕ) → to.number < length w.helpers →
       Did letter.number false 0 w (helper_did w i (share_step (helper_at w.helpers i) letter to peer boss).helper (share_step (helper_at w.helpers i) letter to peer boss).outcome.post)
   share_did letter to peer boss lj =
-      by_test (Called-well letter.number) (ltb 255 to.number) _ _ (λ _. idles letter.number)
-      (λ _. by_test (Called-well letter.number) (ltb (place who.letters letter.number) 64) _ _
+      by_test (CalledWell letter.number) (ltb 255 to.number) _ _ (λ _. idles letter.number)
+      (λ _. by_test (CalledWell letter.number) (ltb (place who.letters letter.number) 64) _ _
       (λ t. share_at_moves letter to peer boss lj (ltb-true _ _ t)) (λ _. idles letter.number))
 
   pub rest_did : (letter : LetterId) (boss : ℕ) →
@@ -123,7 +123,7 @@ module _ (w : World) (O : Order w) (i : ℕ) (lt : i < length w.helpers) where
       n = letter.number
 
       P : Called → Type 0
-      P d = Called-well n d
+      P d = CalledWell n d
 
   pub flush_did : (boss : ℕ) →
       Did (get_or (helper_at w.helpers i).letters (seek_waiting (helper_at w.helpers i).holdings) 0) false 0 w (helper_did w i (flush_step (helper_at w.helpers i) boss).helper (flush_step (helper_at w.helpers i) boss).post)

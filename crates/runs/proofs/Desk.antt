@@ -47,11 +47,11 @@ module _ (w : World) (O : Order w) where
       boss_did_moves w O n 0 given back give live done c (w.post ++ m ∷ []) (post_of n w.post ++ m ∷ []) pos B (send_own n w.post m (eq-eqb n n refl))
       (λ k p ne. send_other k w.post m (ne_eqb n k (λ q. ne (sym q)))) (All-push (λ (a : Mail). 1 ≤ a.letter.number) w.post m O.numbered pos) t
 
-  abbrev Called-well : ℕ → Bool → Called → Type 0
-  Called-well n give d = Did n give 0 w (boss_did w d.boss d.outcome.post)
+  abbrev CalledWell : ℕ → Bool → Called → Type 0
+  CalledWell n give d = Did n give 0 w (boss_did w d.boss d.outcome.post)
 
   give_open_moves : (letter : LetterId) (to : NodeId) (room : ℕ) → to.number < length w.helpers → place b.letters letter.number < 64 →
-      Called-well letter.number true (give_open b letter to room (place b.letters letter.number))
+      CalledWell letter.number true (give_open b letter to room (place b.letters letter.number))
   give_open_moves letter to room lj l =
       by_test P (ltb (get_or b.given (place b.letters n) 0 + grant) limit) _ _
       (λ few. by_test P (eqb room 0) _ _ (λ _. nothing_did n true w O)
@@ -63,10 +63,10 @@ module _ (w : World) (O : Order w) where
       n = letter.number
 
       P : Called → Type 0
-      P d = Called-well n true d
+      P d = CalledWell n true d
 
   give_new_moves : (letter : LetterId) (to : NodeId) (room : ℕ) → to.number < length w.helpers → ltb (place b.letters letter.number) 64 ≡ false →
-      Called-well letter.number true (give_new b letter to room)
+      CalledWell letter.number true (give_new b letter to room)
   give_new_moves letter to room lj out =
       by_test P (ltb b.highest n) _ _
       (λ new. by_test P (ltb (seek b.letters 0) 64) _ _
@@ -80,7 +80,7 @@ module _ (w : World) (O : Order w) where
       n = letter.number
 
       P : Called → Type 0
-      P d = Called-well n true d
+      P d = CalledWell n true d
 
       none_given : given_of b n ≡ 0
       none_given = rw out
@@ -99,8 +99,8 @@ module _ (w : World) (O : Order w) where
   pub give_did : (letter : LetterId) (to : NodeId) (room : ℕ) → to.number < length w.helpers →
       Did letter.number true 0 w (boss_did w (give_step w.boss letter to room).boss (give_step w.boss letter to room).outcome.post)
   give_did letter to room lj =
-      by_test (Called-well letter.number true) (ltb 255 to.number) _ _ (λ _. nothing_did letter.number true w O)
-      (λ _. by_test (Called-well letter.number true) (ltb (place b.letters letter.number) 64) _ _
+      by_test (CalledWell letter.number true) (ltb 255 to.number) _ _ (λ _. nothing_did letter.number true w O)
+      (λ _. by_test (CalledWell letter.number true) (ltb (place b.letters letter.number) 64) _ _
       (λ t. give_open_moves letter to room lj (ltb-true _ _ t)) (λ f. give_new_moves letter to room lj f))
 
   pub say_did : (letter : LetterId) →
@@ -118,7 +118,7 @@ module _ (w : World) (O : Order w) where
       n = letter.number
 
       P : Called → Type 0
-      P d = Called-well n false d
+      P d = CalledWell n false d
 
 module _ (w : World) (O : Order w) (k : ℕ) (lk : k < length w.post) (to : (mail_at w.post k).receiver.number ≡ boss_number)
     (fine : FineKind (length (holdings_of (mail_at w.post k).letter.number w.helpers)) (mail_at w.post k) (mail_at w.post k).kind) where
