@@ -1,15 +1,13 @@
 -- Worlds that are alike have the same promises.
-use Rattle.std.proofs.Common.{◌≡◌, ℕ, ◌+◌, ◌<◌, ◌≤◌, Bool, true, false, cond, eqb, ◌⊎◌, List, [], ◌∷◌, length, All, sum_by, filter, sym, refl, ap, ◌∙◌, subst, inl, inr, arith}
+use Rattle.std.proofs.Common.{◌≡◌, ℕ, ◌+◌, ◌<◌, Bool, true, false, cond, List, [], ◌∷◌, length, All, sum_by, filter, sym, refl, ap, ◌∙◌, arith}
 use Rattle.std.specs.List.Sorted.{IsPermutation}
-use Rattle.std.proofs.lemmas.List.Elements.{All-get_or, All-from_get_or}
-use Rattle.std.proofs.lemmas.List.Sorted.{IsPermutation-sym, length_permutation, All-permutation, sum_by-IsPermutation}
+use Rattle.std.proofs.lemmas.List.Elements.{All-nil, All-cons, All-head, All-tail, All-get_or, All-from_get_or}
+use Rattle.std.proofs.lemmas.List.Sorted.{All-permutation, sum_by-IsPermutation}
 use Rattle.std.proofs.lemmas.List.Sums.{sum_by-cons}
 use Rattle.coins.specs.declared.mail.Mail.{Mail}
 use Rattle.coins.specs.Limits.{boss_number}
 use Rattle.coins.specs.Mails.{coins_in}
 use Rattle.helper_coins.specs.Helpers.{arrive_step}
-use Rattle.helper_coins.specs.declared.helper.Helper.{Helper}
-use Rattle.boss_coins.specs.declared.boss.Boss.{Boss}
 use Rattle.boss_coins.specs.Bosses.{receive_step}
 use Rattle.runs.specs.System.{World, mail_at, no_mail, helper_at}
 use Rattle.runs.specs.Letter.{view, is_of, is_work, post_of, Quiet, under_way, weigh, mailed, holdings_of, delayed, to_come}
@@ -26,20 +24,22 @@ module _ {X : Type 0} (p : X → Bool) where
   Passing P x = p x ≡ true → P x
 
   all_kept : (P : X → Type 0) (xs : List X) → All (Passing P) xs → All P (filter p xs)
-  all_kept P [] h = tt
-  all_kept P (x ∷ xs) h = go (p x) refl (all_kept P xs h.1)
+  all_kept P [] h = All-nil P
+  all_kept P (x ∷ xs) h = go (p x) refl (all_kept P xs (All-tail (Passing P) x xs h))
     where
       go : (b : Bool) → p x ≡ b → All P (filter p xs) → All P (cond (p x) (x ∷ filter p xs) (filter p xs))
-      go true t rest = rw t (h.0 t, rest)
+      go true t rest = rw t (All-cons P x (filter p xs) (All-head (Passing P) x xs h t) rest)
       go false t rest = rw t rest
 
   pub kept_all : (P : X → Type 0) (xs : List X) → All P (filter p xs) → All (Passing P) xs
-  kept_all P [] h = tt
+  kept_all P [] h = All-nil (Passing P)
   kept_all P (x ∷ xs) h = go (p x) refl (λ k. kept_all P xs k)
     where
       go : (b : Bool) → p x ≡ b → (All P (filter p xs) → All (Passing P) xs) → All (Passing P) (x ∷ xs)
-      go true t rest = let k : P x × All P (filter p xs) = rw t at h in (λ _. k.0, rest k.1)
-      go false t rest = (λ u. absurd (let z : false ≡ true = sym t ∙ u in grind arith), rest (rw t at h))
+      go true t rest =
+          let k : All P (x ∷ filter p xs) = rw t at h in
+          All-cons (Passing P) x xs (λ _. All-head P x (filter p xs) k) (rest (All-tail P x (filter p xs) k))
+      go false t rest = All-cons (Passing P) x xs (λ u. absurd (let z : false ≡ true = sym t ∙ u in grind arith)) (rest (rw t at h))
 
   sum_kept : (f : X → ℕ) (xs : List X) → sum_by f (filter p xs) ≡ sum_by (λ x. cond (p x) (f x) 0) xs
   sum_kept f [] = refl
@@ -76,11 +76,11 @@ module _ (w v : World) (A : Alike w v) where
 
   pub alike_none : (n : ℕ) → (view n w).post ≡ [] → (view n v).post ≡ []
   unfolding post_of
-  alike_none n e = none_kept (post_of n v.post) (kept_every (is_of n) w.post v.post same_messages (λ _. ⊥) (rw e tt))
+  alike_none n e = none_kept (post_of n v.post) (kept_every (is_of n) w.post v.post same_messages (λ _. ⊥) (rw e (All-nil (λ _. ⊥))))
     where
       none_kept : (xs : List Mail) → All (λ _. ⊥) xs → xs ≡ []
       none_kept [] h = refl
-      none_kept (x ∷ xs) h = absurd h.0
+      none_kept (x ∷ xs) h = absurd (All-head (λ _. ⊥) x xs h)
 
   pub alike_to_come : (n : ℕ) → to_come (view n v) ≡ to_come (view n w)
   alike_to_come n = rw (← A.helpers) (ap (λ (k : ℕ). k + delayed (holdings_of n w.helpers)) (alike_mailed n))

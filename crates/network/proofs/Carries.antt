@@ -1,5 +1,6 @@
 -- Each step of the network is a step of its mirror, or is not seen from above: by the promise of lines.
-use Rattle.std.proofs.Common.{◌≡◌, ℕ, suc, ◌+◌, ◌≤◌, Bool, false, ◌⊎◌, List, [], ◌∷◌, Contains, sym, refl, ap, ◌∙◌, subst, inl, inr, arith}
+use Rattle.std.proofs.Common.{◌≡◌, ℕ, suc, ◌+◌, ◌≤◌, ◌⊎◌, List, [], ◌∷◌, Contains, sym, refl, ap, ◌∙◌, subst, inl, inr, arith}
+use Rattle.std.proofs.lemmas.List.Elements.{All-nil}
 use Rattle.coins.specs.declared.mail.Mail.{Mail}
 use Rattle.runs.specs.System.{World, begin}
 use Rattle.runs.specs.System as system
@@ -130,7 +131,7 @@ opening_fine : (n : ℕ) → Fine reading (opening n)
 opening_fine n = (lines.promise Call Take reading).begins (opening n) (record { lines = λ s r. refl; net = refl })
 
 opening_mirrors : (n : ℕ) → n ≤ 256 → Mirrors (perfect (opening n)) []
-opening_mirrors n few = record { reached = begin n few; lanes = λ i j. refl; senders = tt }
+opening_mirrors n few = record { reached = begin n few; lanes = λ i j. refl; senders = All-nil _ }
 
 -- every reached network is fine, and has a mirror
 module _ {w : Net} (R : NetReach w) where

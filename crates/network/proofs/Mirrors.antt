@@ -1,12 +1,11 @@
 -- Worlds over lines that lose nothing, as mirrors of what is seen of the lines of the network: each step of the one is
 -- a step of the other.
-use Rattle.std.proofs.Common.{◌≡◌, ℕ, zero, suc, ◌+◌, ◌<◌, ◌≤◌, Bool, true, false, cond, ◌&&◌, eqb, ltb, ◌⊎◌, List, [], ◌∷◌, ◌++◌, map, length, set, All, filter, sym, refl, ap, ◌∙◌, subst, inl, inr, arith}
+use Rattle.std.proofs.Common.{◌≡◌, ℕ, suc, ◌<◌, ◌≤◌, Bool, true, false, cond, ◌&&◌, eqb, ◌⊎◌, List, [], ◌∷◌, ◌++◌, map, length, All, filter, sym, refl, ap, ◌∙◌, subst, inl, inr, arith}
 use Rattle.std.specs.List.{remove}
-use Rattle.std.proofs.lemmas.List.Elements.{filter-append, filter_passes, All-push}
+use Rattle.std.proofs.lemmas.List.Elements.{All-cons, All-head, All-tail, filter-append, filter_passes, All-push}
 use Rattle.std.proofs.lemmas.List.{append-nil, map-append, length-append, length-set, get_or_at}
 use Rattle.std.proofs.lemmas.Bool.{eqb-true}
 use Rattle.std.proofs.lemmas.Bool.Decides.{eqb_tells, nat_tests}
-use Rattle.coins.specs.declared.ids.NodeId.{NodeId}
 use Rattle.coins.specs.declared.mail.Mail.{Mail}
 use Rattle.coins.specs.declared.mail.Post.{Post}
 use Rattle.coins.specs.declared.mail.Post.TheVariants.{Nothing, Send}
@@ -24,7 +23,7 @@ use Rattle.lines.specs.Ends.{slot}
 use Rattle.lines.specs.Perfect.{Sent, at_pair, from_to, queued, Perfect}
 use Rattle.network.specs.Above.{Crew, Item, outgoing, Call, gives, says, shares, rests, flushes, Take, comes, returns}
 use Rattle.network.specs.Promise.{call_gives}
-use Rattle.network.proofs.Shuffles.{on_own, none_one, Foremost, foremost, kept_none}
+use Rattle.network.proofs.Shuffles.{on_own, none_one, foremost, kept_none}
 use Rattle.network.proofs.Posts.{SentBy, give_by, say_by, share_by, rest_by, flush_by, arrive_by, receive_by}
 
 abbrev pub world : Crew → List Mail → World
@@ -279,8 +278,8 @@ take_did (returns x s room m c p e) a b R on none =
     }
 
 all_out : {X : Type 0} (P : X → Type 0) (a b : List X) (x : X) → All P (a ++ x ∷ b) → All P (a ++ b)
-all_out P [] b x h = h.1
-all_out P (y ∷ a) b x h = (h.0, all_out P a b x h.1)
+all_out P [] b x h = All-tail P x b h
+all_out P (y ∷ a) b x h = All-cons P y (a ++ b) (All-head P y (a ++ x ∷ b) h) (all_out P a b x (All-tail P y (a ++ x ∷ b) h))
 
 module _ (a : Perfect Crew Item) (q : ℕ → ℕ → List Item) (y : Crew) (s r : ℕ) (p : Item) (ps : List Item) (out : List (Sent Item)) (t : Take a.above s r p out y)
     (e : (i j : ℕ) → q i j ≡ queued out (at_pair s r (λ _. ps) a.queue) i j) where
@@ -289,7 +288,7 @@ module _ (a : Perfect Crew Item) (q : ℕ → ℕ → List Item) (y : Crew) (s r
   came_parts front back M on none rest =
       moved_by a (front ++ p.mail ∷ back) (remove (front ++ p.mail ∷ back) (length front)) (at_pair s r (λ _. ps) a.queue) q y out _ _ M (take_did t front back M.reached on none)
       (λ i j. lane i j (eqb i s && eqb j r) refl ∙ sym (ap (filter (on_places i j)) gone))
-      (rw gone (all_out _ front back p.mail M.senders)) e
+      (rw gone (all_out (FromNode (length a.above.helpers)) front back p.mail M.senders)) e
     where
       gone : remove (front ++ p.mail ∷ back) (length front) ≡ front ++ back
       gone = removed_at front back p.mail
@@ -315,6 +314,6 @@ module _ (a : Perfect Crew Item) (q : ℕ → ℕ → List Item) (y : Crew) (s r
   came_moved ms M h =
       let kept : filter (on_places s r) ms ≡ p.mail ∷ mails ps = sym (M.lanes s r) ∙ ap mails h in
       let F = foremost (on_places s r) ms p.mail (mails ps) kept in
-      let on : on_places s r p.mail ≡ true = (subst (λ (xs : List Mail). All (λ m. on_places s r m ≡ true) xs) kept (filter_passes (on_places s r) ms)).0 in
+      let on : on_places s r p.mail ≡ true = All-head (λ m. on_places s r m ≡ true) p.mail (mails ps) (subst (λ (xs : List Mail). All (λ m. on_places s r m ≡ true) xs) kept (filter_passes (on_places s r) ms)) in
       subst (λ (xs : List Mail). Mirrors a xs → Moved a (record { above = y; queue = q }) xs (λ _. false) (λ letter. cond (eqb p.mail.letter.number letter) 1 0)) (sym F.parts)
       (λ N. came_parts F.front F.back N on F.none F.rest) M

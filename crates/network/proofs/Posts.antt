@@ -1,5 +1,5 @@
 -- Who sends what a step sends: the boss, or the helper whose step it is.
-use Rattle.std.proofs.Common.{◌≡◌, ℕ, ◌+◌, ◌<◌, Bool, cond, not, ◌&&◌, ◌||◌, eqb, ltb, leb, ◌⊎◌, get_or, refl, subst, inl, inr, arith}
+use Rattle.std.proofs.Common.{◌≡◌, ℕ, ◌+◌, cond, not, ◌&&◌, ◌||◌, eqb, ltb, leb, get_or, refl, subst}
 use Rattle.coins.specs.declared.answer.Refusal.TheVariants.{NoPlace}
 use Rattle.coins.specs.declared.ids.LetterId.{LetterId}
 use Rattle.coins.specs.declared.ids.NodeId.{NodeId}
@@ -38,7 +38,7 @@ module _ (b : Boss) where
   abbrev Gave : boss.Called → Type 0
   Gave = Holds (λ d. SentBy boss_number d.outcome.post)
 
-  abbrev Got : boss.Took-in → Type 0
+  abbrev Got : boss.TookIn → Type 0
   Got = Holds (λ d. TookBy boss_number d.taking)
 
   pub give_by : (letter : LetterId) (to : NodeId) (room : ℕ) → SentBy boss_number (boss.give_step b letter to room).outcome.post
@@ -94,7 +94,7 @@ module _ (h : Helper) where
   abbrev Did : helper.Called → Type 0
   Did = Holds (λ d. SentBy h.me.number d.outcome.post)
 
-  abbrev Met : helper.Took-in → Type 0
+  abbrev Met : helper.TookIn → Type 0
   Met = Holds (λ d. TookBy h.me.number d.taking)
 
   abbrev SentOff : helper.Flushed → Type 0

@@ -1,8 +1,7 @@
 -- What the bytes of a packet say.
-use Rattle.std.proofs.Common.{◌≡◌, ℕ, Bool, true, false, cond, ◌&&◌, eqb, ◌⊎◌, Some, None, Option, sym, refl, ap, ◌∙◌, inl, inr, arith}
+use Rattle.std.proofs.Common.{◌≡◌, ℕ, ◌⊎◌, Some, None, refl, ap, ◌∙◌, inl, inr}
 use Rattle.std.proofs.lemmas.Bool.Decides.{eqb_tells}
 use Rattle.std.proofs.lemmas.Bool.{eq-eqb}
-use Rattle.wire.specs.declared.message.Body.{Body}
 use Rattle.wire.specs.Rules.{Sound}
 use Rattle.wire.specs.Messages.{Msg, numbered_msg, taken_msg}
 use Rattle.wire.specs.Bytes.{decode}
@@ -13,8 +12,7 @@ use Rattle.coins.specs.declared.parcel.Parcel.{Parcel}
 use Rattle.lines.specs.declared.packet.Packet.{Packet}
 use Rattle.lines.specs.Packets.{packet_of, answer_of}
 use Rattle.lines.specs.Ends.{slot}
-use Rattle.lines.specs.Lossy.{Reading, Numbered, Answer, Nothing}
-use Rattle.network.specs.Above.{Item}
+use Rattle.lines.specs.Lossy.{Numbered, Answer, Nothing}
 use Rattle.network.specs.Bytes.{item_in, by_body, by_message, reading, PacketsAreRead}
 
 -- a message between the ends of its line

@@ -1,6 +1,5 @@
 -- Messages come through, so what is quiet is said.
 use Rattle.std.proofs.Common.{◌≡◌, ℕ, zero, suc, ◌+◌, ◌-◌, ◌<◌, ◌≤◌, Bool, true, false, ◌⊎◌, List, [], ◌∷◌, sym, refl, ap, ◌∙◌, subst, inl, inr, arith}
-use Rattle.coins.specs.declared.ids.LetterId.{LetterId}
 use Rattle.coins.specs.declared.mail.Mail.{Mail}
 use Rattle.helper_coins.specs.declared.holding.Holding.{Holding}
 use Rattle.helper_coins.specs.Holdings.{waits}
@@ -11,7 +10,7 @@ use Rattle.lines.proofs.Through.{through}
 use Rattle.network.specs.Above.{Call, Take}
 use Rattle.network.specs.Bytes.{reading}
 use Rattle.network.specs.Network.{Net, NetStep, NetReach, seen}
-use Rattle.network.specs.Promise.{is_give, arrivals, Sayable, SentNowAndThen, NotGiven, NotGivenFrom, NetComesToBeSaid}
+use Rattle.network.specs.Promise.{is_give, Sayable, SentNowAndThen, NotGiven, NotGivenFrom, NetComesToBeSaid}
 use Rattle.network.proofs.Carries.{net_fine, net_then}
 use Rattle.network.proofs.Theorems.{net_quiet_is_said}
 use Rattle.network.proofs.Stills.{net_less, net_quiet_next}

@@ -1,18 +1,16 @@
 -- What is seen of a network has the same queues as its mirror.
-use Rattle.std.proofs.Common.{◌≡◌, ℕ, zero, suc, ◌<◌, ◌≤◌, Bool, true, false, cond, ◌&&◌, eqb, ltb, ◌⊎◌, List, [], ◌∷◌, ◌++◌, length, All, filter, sym, refl, ap, ◌∙◌, subst, inl, inr, arith}
+use Rattle.std.proofs.Common.{◌≡◌, ℕ, zero, suc, ◌<◌, ◌≤◌, Bool, true, false, cond, ◌&&◌, eqb, ◌⊎◌, List, [], ◌∷◌, ◌++◌, length, All, filter, sym, refl, ap, ◌∙◌, subst, inl, inr, arith}
 use Rattle.std.specs.List.{flat_map}
-use Rattle.std.proofs.lemmas.List.Elements.{filter-append, filter_passes, All-filter, All-get_or, All-from_get_or}
+use Rattle.std.proofs.lemmas.List.Elements.{All-head, filter-append, filter_passes, All-filter, All-get_or, All-from_get_or}
 use Rattle.std.proofs.lemmas.List.{append-nil, append_assoc}
-use Rattle.std.proofs.lemmas.Bool.{eqb-true, eq-eqb}
+use Rattle.std.proofs.lemmas.Bool.{eq-eqb}
 use Rattle.std.proofs.lemmas.Bool.Decides.{eqb_tells, nat_tests}
 use Rattle.coins.specs.declared.ids.NodeId.{NodeId}
 use Rattle.coins.specs.declared.mail.Mail.{Mail}
-use Rattle.coins.specs.Limits.{boss_number}
-use Rattle.runs.specs.System.{no_mail, mail_at, on_line}
+use Rattle.runs.specs.System.{no_mail, on_line}
 use Rattle.runs.specs.Lines.{queue}
 use Rattle.runs.proofs.Always.{always}
 use Rattle.runs.proofs.Queued.{same_line}
-use Rattle.runs.proofs.Tables.{both_true}
 use Rattle.lines.specs.Ends.{slot}
 use Rattle.lines.specs.Lossy.{Line}
 use Rattle.lines.specs.Lossy.{view as perfect}
@@ -129,8 +127,8 @@ module _ (ms : List Mail) (n : ℕ) (few : n ≤ 256) (inside : All (Inside n) m
           nothing true = refl
           nothing false = refl
       go (m ∷ l) e =
-          let on : on_line s r m ≡ true = (subst (λ (xs : List Mail). All (λ x. on_line s r x ≡ true) xs) e (filter_passes (on_line s r) ms)).0 in
-          let nodes : Inside n m = (subst (λ (xs : List Mail). All (Inside n) xs) e (All-filter (on_line s r) (Inside n) ms inside)).0 in
+          let on : on_line s r m ≡ true = All-head (λ x. on_line s r x ≡ true) m l (subst (λ (xs : List Mail). All (λ x. on_line s r x ≡ true) xs) e (filter_passes (on_line s r) ms)) in
+          let nodes : Inside n m = All-head (Inside n) m l (subst (λ (xs : List Mail). All (Inside n) xs) e (All-filter (on_line s r) (Inside n) ms inside)) in
           let line = same_line s r m on in
           hit_pair (slot s.number) (slot r.number) (filter (on_line s r) ms) n few
           (slot_place n s.number few (rw line.0 nodes.0)) (slot_place n r.number few (rw line.1 nodes.1))

@@ -1,18 +1,15 @@
 -- What is quiet, and is not given: at each step there is less to come, or the helpers' states of the letter stay.
-use Rattle.std.proofs.Common.{◌≡◌, ℕ, suc, ◌+◌, ◌<◌, ◌≤◌, Bool, true, false, ◌⊎◌, List, [], ◌∷◌, ◌++◌, sym, refl, ap, ◌∙◌, subst, inl, inr, arith}
+use Rattle.std.proofs.Common.{◌≡◌, ℕ, ◌+◌, ◌<◌, ◌≤◌, false, ◌⊎◌, [], ◌∷◌, ◌++◌, refl, ap, ◌∙◌, inl, inr, arith}
 use Rattle.std.proofs.lemmas.List.{append-nil}
-use Rattle.std.proofs.lemmas.Bool.Decides.{nat_tests}
-use Rattle.coins.specs.declared.mail.Kind.{Kind}
-use Rattle.helper_coins.specs.Holdings.{idle, waits}
+use Rattle.helper_coins.specs.Holdings.{idle}
 use Rattle.runs.specs.System.{World, Step, Reach}
-use Rattle.runs.specs.Letter.{View, view, holding_at, Quiet, weigh, delay, mailed, delayed, to_come}
+use Rattle.runs.specs.Letter.{View, view, holding_at, Quiet, weigh, delay, mailed, to_come}
 use Rattle.runs.specs.Moves.{Move, gives, takes, shares, asks, rests, flushes, keeps, declines, hears, grants, denies, returns, says, skips, is_giving, coming}
 use Rattle.runs.specs.Promise as promise
 use Rattle.runs.proofs.Counts.{clash, mailed_split, delayed_set}
 use Rattle.runs.proofs.Quiets.{quiet_on}
 use Rattle.runs.proofs.Always.{always}
 use Rattle.runs.proofs.Theorems.{see}
-use Rattle.lines.specs.Lossy.{view as perfect}
 use Rattle.network.specs.Network.{Net, NetStep, NetReach, seen}
 use Rattle.network.specs.Promise.{is_give, arrivals, still, onward}
 use Rattle.network.proofs.Carries.{follows, net_fine, posts, net_mirrors}

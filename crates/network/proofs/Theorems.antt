@@ -1,22 +1,19 @@
 -- The promises over lossy lines, but for the last.
-use Rattle.std.proofs.Common.{◌≡◌, ℕ, ◌+◌, ◌<◌, ◌≤◌, Bool, true, false, ◌⊎◌, List, [], ◌∷◌, length, All, Contains, sym, refl, ap, ◌∙◌, subst, inl, inr, arith}
-use mathlib.Core.Logic.{∥∥₁_elim, ∥∥₁_map}
-use native.Mathlib.Nat.{ℕ_set}
+use Rattle.std.proofs.Common.{◌≡◌, ℕ, ◌<◌, length, Contains, ap, ◌∙◌, inl, inr, arith}
+use Rattle.std.proofs.lemmas.List.{get_or_default}
 use Rattle.std.specs.List.{flat_map}
 use Rattle.std.proofs.lemmas.List.Elements.{Contains-get_or}
 use Rattle.std.proofs.lemmas.List.Sorted.{Contains-permutation}
 use Rattle.coins.specs.declared.mail.Mail.{Mail}
 use Rattle.runs.specs.System.{World, mail_at, no_mail, helper_at}
-use Rattle.runs.specs.Letter.{view, holding_at, is_work, Quiet, to_come}
-use Rattle.runs.specs.Promise.{Promised}
+use Rattle.runs.specs.Letter.{view, holding_at, is_work}
 use Rattle.runs.proofs.Counts.{clash}
 use Rattle.runs.proofs.Theorems.{promised, done_stays, only_work_wakes, quiet_goes_on, quiet_is_said}
 use Rattle.lines.specs.Perfect.{Perfect}
-use Rattle.lines.specs.Lossy.{Fine}
 use Rattle.lines.specs.Lossy.{view as perfect}
 use Rattle.network.specs.Above.{Crew, Item}
-use Rattle.network.specs.Network.{Net, NetStep, NetReach, places, all_mail, seen}
-use Rattle.network.specs.Promise.{NetPromise, NetDoneStays, NetOnlyWorkWakes, NetUngiven, NetQuietGoesOn, Sayable, NetQuietIsSaid, Alike, Carried, LinesCarry}
+use Rattle.network.specs.Network.{Net, NetReach, places, all_mail, seen}
+use Rattle.network.specs.Promise.{NetPromise, NetDoneStays, NetOnlyWorkWakes, NetQuietGoesOn, NetQuietIsSaid, Alike, LinesCarry}
 use Rattle.network.proofs.Mirrors.{world, mails, named}
 use Rattle.network.proofs.Carries.{follows, mirrored, ungave, net_fine, posts, net_mirrors}
 use Rattle.network.proofs.Seen.{alike}
@@ -55,7 +52,7 @@ net_only_work_wakes w v R s letter i pos f t =
           let W = only_work_wakes _ _ (net_mirrors R).reached F.step letter i pos f t in
           let m : Mail = mail_at (posts R) W.0 in
           let H : Contains (seen w).post m = Contains-permutation (posts R) (seen w).post m (same_messages _ (seen w) (mirror_alike R)) (Contains-get_or (posts R) W.0 no_mail W.1) in
-          let e : mail_at (seen w).post H.0 ≡ m = H.2 no_mail in
+          let e : mail_at (seen w).post H.0 ≡ m = get_or_default (seen w).post H.0 no_mail m H.1 ∙ H.2 in
           (H.0, H.1, ap (λ (x : Mail). x.receiver.number) e ∙ W.2, ap (λ (x : Mail). x.letter.number) e ∙ W.3, ap (λ (x : Mail). is_work x.kind) e ∙ W.4)
       | inr e ↦ clash t (ap (λ (u : World). (holding_at (view letter u).holdings i).working) (seen_same w v e.0) ∙ f)
     ]

@@ -1,22 +1,21 @@
 -- A message of a letter on its line: it is the same number of the line until it is taken.
 use Rattle.std.proofs.Common.{◌≡◌, ℕ, zero, suc, ◌+◌, ◌-◌, ◌<◌, ◌≤◌, Bool, true, false, cond, ◌&&◌, eqb, ◌⊎◌, List, [], ◌∷◌, ◌++◌, map, length, get_or, All, Contains, filter, sym, refl, ap, ◌∙◌, subst, inl, inr, append_assoc, arith}
-use Rattle.std.proofs.lemmas.List.Elements.{All-contains, All-contains_itself, Contains-get_or, filter_passes}
+use Rattle.std.proofs.lemmas.List.Elements.{All-head, All-contains, All-contains_itself, filter_passes}
 use Rattle.std.proofs.lemmas.List.{append-nil, length-append, length-drop, get_or_at}
 use Rattle.std.proofs.lemmas.List.Sorted.{Contains-permutation, IsPermutation-sym}
 use Rattle.std.proofs.lemmas.Bool.{eq-eqb, eqb-true}
 use Rattle.coins.specs.declared.mail.Mail.{Mail}
-use Rattle.runs.specs.System.{no_mail}
 use Rattle.runs.specs.Letter.{view, is_of, post_of}
 use Rattle.runs.proofs.Tables.{both_true}
 use Rattle.lines.specs.Ends.{slot}
-use Rattle.lines.specs.Perfect.{at_pair, from_to}
-use Rattle.lines.specs.Lossy.{Line, posted, under, kept, take_one, cut, Ordered, Fine, calls, drifts, takes, answers}
+use Rattle.lines.specs.Perfect.{from_to}
+use Rattle.lines.specs.Lossy.{posted, under, take_one, cut, Fine, calls, drifts, takes, answers}
 use Rattle.lines.specs.Lossy.{view as perfect}
 use Rattle.network.specs.Above.{Item}
 use Rattle.network.specs.Bytes.{reading}
 use Rattle.network.specs.Network.{Net, NetStep, NetReach, seen}
 use Rattle.network.specs.Promise.{arrivals}
-use Rattle.network.proofs.Shuffles.{none_one, cons_parts, Foremost, foremost}
+use Rattle.network.proofs.Shuffles.{cons_parts, foremost}
 use Rattle.network.proofs.Mirrors.{on_places, mails}
 use Rattle.network.proofs.Carries.{Took, call_is, take_is, answer_is, posts, net_mirrors}
 use Rattle.network.proofs.Alike.{Passing, kept_all, same_messages}
@@ -125,7 +124,7 @@ pub record Found (letter : ℕ) (w : Net) : Type 0 where
   pub waiting : Waiting letter s r k w
 
 on_line : (w : Net) (letter i j : ℕ) (m : Mail) → is_of letter m ≡ true → Contains (mails (under (w.line i j))) m → Found letter w
-on_line w letter i j m of line = found_at (midst (λ (p : Item). p.mail) (under (w.line i j)) m line.0 line.1 (line.2 m))
+on_line w letter i j m of line = found_at (midst (λ (p : Item). p.mail) (under (w.line i j)) m line.0 line.1 line.2)
   where
     found_at : Midst (λ (p : Item). p.mail) (under (w.line i j)) m → Found letter w
     found_at M =
@@ -135,8 +134,8 @@ pub found : {w : Net} → NetReach w → (letter : ℕ) (m : Mail) (ms : List Ma
 unfolding post_of
 found {w} R letter m ms e =
     let F = foremost (is_of letter) (seen w).post m ms e in
-    let of : is_of letter m ≡ true = (subst (λ (l : List Mail). All (λ x. is_of letter x ≡ true) l) e (filter_passes (is_of letter) (seen w).post)).0 in
-    let there : Contains (seen w).post m = subst (λ (l : List Mail). Contains l m) (sym F.parts) (length F.front, omega (arith, length-append F.front (m ∷ F.back)), λ d. get_or_at F.front m F.back d (length F.front) refl) in
+    let of : is_of letter m ≡ true = All-head (λ x. is_of letter x ≡ true) m ms (subst (λ (l : List Mail). All (λ x. is_of letter x ≡ true) l) e (filter_passes (is_of letter) (seen w).post)) in
+    let there : Contains (seen w).post m = subst (λ (l : List Mail). Contains l m) (sym F.parts) (length F.front, omega (arith, length-append F.front (m ∷ F.back)), get_or_at F.front m F.back m (length F.front) refl) in
     let i : ℕ = slot m.sender.number in
     let j : ℕ = slot m.receiver.number in
     let sent : Contains (posts R) m = Contains-permutation (seen w).post (posts R) m (IsPermutation-sym (posts R) (seen w).post (same_messages _ (seen w) (mirror_alike R))) there in

@@ -7,7 +7,7 @@ use Rattle.coins.specs.declared.answer.Answer.TheVariants.{Done}
 use Rattle.helper_coins.specs.Holdings.{waits}
 use Rattle.boss_coins.specs.Bosses.{is_open, say_step}
 use Rattle.runs.specs.System.{World, mail_at, Step, Reach}
-use Rattle.runs.specs.Letter.{View, view, is_done, holding_at, is_work, Quiet, to_come}
+use Rattle.runs.specs.Letter.{view, is_done, holding_at, is_work, Quiet, to_come}
 use Rattle.runs.specs.Lines.{queue}
 use Rattle.runs.specs.Promise.{Promised}
 use Rattle.lines.specs.Runs.{Runs}
