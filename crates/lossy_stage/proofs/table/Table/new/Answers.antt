@@ -10,9 +10,9 @@ loop-i-init c = (ap helpers_in c.new-helpers.ensures.items, c.new-helpers.ensure
 
 pub loop-i-preserved : goal.loop-i-preserved
 loop-i-preserved c =
-    (staff_more (vec_items c.loop-i.helpers) (vec_items c.push.new.self) c.in-ok-helper.helper c.loop-i.i c.in-ok-push.ensures.items c.in-ok-helper.ensures c.loop-i.invariant.0, c.in-ok-push.ensures.len ∙ ap (λ k. k + 1) c.loop-i.invariant.1)
+    (staff_more (vec_items c.loop-i.helpers) (vec_items c.push.new.self) c.in_ok-helper.helper c.loop-i.i c.in_ok-push.ensures.items c.in_ok-helper.ensures c.loop-i.invariant.0, c.in_ok-push.ensures.len ∙ ap (λ k. k + 1) c.loop-i.invariant.1)
 
 pub returns : goal.returns
 returns c =
     let n : c.loop-i.i ≡ c.args.n = omega (arith, c.loop-i-test.false, c.loop-i.auto.i-end) in
-    opened _ _ _ c.args.n c.in-ok-new.ensures (c.loop-i.invariant.0 ∙ ap staff n) c.new-3.ensures.items
+    opened _ _ _ c.args.n c.in_ok-new.ensures (c.loop-i.invariant.0 ∙ ap staff n) c.new-3.ensures.items

@@ -1,10 +1,8 @@
-use Rattle.std.proofs.Common.{◌≡◌, true, ◌&&◌, vec_items, sym, refl, ap, ◌∙◌, subst, arith}
+use Rattle.std.proofs.Common.{vec_items, sym, ◌∙◌, arith}
 use Rattle.helper_coins.specs.declared.helper.Helper.{Helper}
 use Rattle.nodes.specs.Arrivals.{Node}
 use Rattle.nodes.specs.Viewed.{boss_at}
-use Rattle.scenes.specs.declared.command.Response.{Response}
 use Rattle.scenes.specs.Plays.{is_there}
-use Rattle.lossy_stage.specs.Outcomes.{Outcome}
 use Rattle.lossy_stage.specs.Tables.{scene}
 use Rattle.nodes.specs.HelperSteps.{rest_node}
 use Rattle.lossy_stage.proofs.Told.{helper_played, where_true}
@@ -13,7 +11,7 @@ use Rattle.lossy_stage.proofs.table.Table.rest.Goals as goal
 pub returns : goal.returns
 returns c =
     let t = c.args.self.now in
-    where_true (is_there (scene t) c.args.by) _ _ _ _ _ (sym c.is-there.ensures.value ∙ c.if-not-is-there.false)
-    (helper_played (boss_at t.boss) (vec_items t.helpers) (vec_items t.net) (vec_items c.rest.new.out) c.args.by.number c.index-mut.result.now c.rest.new.self
-    (omega (arith, t.helpers.ok.0, c.is-there.ensures.inside c.if-not-is-there.false)) c.index-mut.ensures.value
+    where_true (is_there (scene t) c.args.by) _ _ _ _ _ (sym c.is_there.ensures.value ∙ c.if-not-is_there.false)
+    (helper_played (boss_at t.boss) (vec_items t.helpers) (vec_items t.net) (vec_items c.rest.new.out) c.args.by.number c.index_mut.result.now c.rest.new.self
+    (omega (arith, t.helpers.ok.0, c.is_there.ensures.inside c.if-not-is_there.false)) c.index_mut.ensures.value
     (λ (n : Node Helper). rest_node n (vec_items t.net) c.args.letter) c.rest.result c.told.result c.rest.ensures c.told.ensures)
