@@ -1,5 +1,5 @@
 // Reads a line.
-ghost use Rattle.script.specs.Lines.{Reads, is_give, give as giveIn, is_say, say as sayIn, share as shareIn, rest as restIn, is_boss_line, boss_line, is_helper_line, helper_line, is_pass, pass as passIn, is_new, afresh as newIn, can_begin, begin as beginIn, is_line, line_in};
+ghost use Rattle.script.specs.Lines.{Reads, is_give, give as give_in, is_say, say as say_in, share as share_in, rest as rest_in, is_boss_line, boss_line, is_helper_line, helper_line, is_pass, pass as pass_in, is_new, afresh as new_in, can_begin, begin as begin_in, is_line, line_in};
 
 use crate::line::{HELPERS, Line};
 use crate::parts::{end, helper, letter, node, number_to, speaker, work};
@@ -9,7 +9,7 @@ use stage::command::Command;
 
 // `give L I [HEX]`, from its letter on.
 fn give(text: &[u8]) -> Option<Line<'_>>
-    ensures { Reads result (is_give text.now) (giveIn text.now) }
+    ensures { Reads result (is_give text.now) (give_in text.now) }
 {
     let (letter, text) = letter(text)?;
     let (to, text) = helper(text)?;
@@ -22,7 +22,7 @@ fn give(text: &[u8]) -> Option<Line<'_>>
 
 // `say L`, from its letter on.
 fn say(text: &[u8]) -> Option<Line<'_>>
-    ensures { Reads result (is_say text.now) (sayIn text.now) }
+    ensures { Reads result (is_say text.now) (say_in text.now) }
 {
     let (letter, text) = letter(text)?;
     end(text)?;
@@ -34,7 +34,7 @@ fn say(text: &[u8]) -> Option<Line<'_>>
 
 // `share L J [HEX]`, from its letter on.
 fn share(by: NodeId, text: &[u8]) -> Option<Line<'_>>
-    ensures { Reads result (is_give text.now) (shareIn by text.now) }
+    ensures { Reads result (is_give text.now) (share_in by text.now) }
 {
     let (letter, text) = letter(text)?;
     let (to, text) = helper(text)?;
@@ -47,7 +47,7 @@ fn share(by: NodeId, text: &[u8]) -> Option<Line<'_>>
 
 // `rest L`, from its letter on.
 fn rest(by: NodeId, text: &[u8]) -> Option<Line<'_>>
-    ensures { Reads result (is_say text.now) (restIn by text.now) }
+    ensures { Reads result (is_say text.now) (rest_in by text.now) }
 {
     let (letter, text) = letter(text)?;
     end(text)?;
@@ -88,7 +88,7 @@ fn helper_line<'a>(first: &[u8], text: &'a [u8]) -> Option<Line<'a>>
 
 // What follows `pass`.
 fn pass(text: &[u8]) -> Option<Line<'_>>
-    ensures { Reads result (is_pass text.now) (passIn text.now) }
+    ensures { Reads result (is_pass text.now) (pass_in text.now) }
 {
     if end(text).is_some() {
         return Some(Line::Settle);
@@ -104,7 +104,7 @@ fn pass(text: &[u8]) -> Option<Line<'_>>
 
 // What follows `new`.
 fn new(text: &[u8]) -> Option<Line<'_>>
-    ensures { Reads result (is_new text.now) (newIn text.now) }
+    ensures { Reads result (is_new text.now) (new_in text.now) }
 {
     let (word, text) = split(text)?;
     end(text)?;
@@ -116,7 +116,7 @@ fn new(text: &[u8]) -> Option<Line<'_>>
 
 // A line by its first word.
 fn begin<'a>(first: &'a [u8], text: &'a [u8]) -> Option<Line<'a>>
-    ensures { Reads result (can_begin first.now text.now) (beginIn first.now text.now) }
+    ensures { Reads result (can_begin first.now text.now) (begin_in first.now text.now) }
 {
     if is(first, b"boss:") {
         return boss_line(text);
