@@ -1,5 +1,5 @@
 -- Every step of the boss.
-use Rattle.std.specs.Prelude.{ℕ, ◌+◌, Bool, cond, ◌||◌, replicate, ◌==◌, nat_le, nat_lt, slice_index, slice_set}
+use Rattle.std.specs.Prelude.{ℕ, ◌+◌, Bool, cond, ◌||◌, replicate, ◌==◌, nat_le, nat_lt, Some, None, Ok, Err, Option, slice_index, slice_set}
 use Rattle.coins.specs.declared.ids.LetterId.{LetterId}
 use Rattle.coins.specs.declared.ids.NodeId.{NodeId}
 use Rattle.coins.specs.declared.answer.Answer.TheVariants.{Fine, Done, Refused}
@@ -7,14 +7,13 @@ use Rattle.coins.specs.declared.answer.Refusal.{Refusal}
 use Rattle.coins.specs.declared.answer.Refusal.TheVariants.{Malformed, NoLetter, CoinsOut, CountsUsed, LettersFull, NoPlace}
 use Rattle.coins.specs.declared.mail.Kind.{Kind}
 use Rattle.coins.specs.declared.mail.Kind.TheVariants.{Work, More, Back, NoMore, Ask}
-use Rattle.coins.specs.declared.mail.Post.{Post}
-use Rattle.coins.specs.declared.mail.Post.TheVariants.{Nothing, Send}
+use Rattle.coins.specs.declared.mail.Mail.{Mail}
 use Rattle.coins.specs.declared.mail.Outcome.{Outcome}
-use Rattle.coins.specs.declared.mail.Taking.{Taking}
-use Rattle.coins.specs.declared.mail.Taking.TheVariants.{Took, Later, Refused as Turned}
+use Rattle.coins.specs.declared.mail.Untaken.TheVariants.{Later, Refused as Turned}
 use Rattle.boss_coins.specs.declared.boss.Boss.{Boss}
 use Rattle.coins.specs.Limits.{grant, limit, boss_number}
 use Rattle.coins.specs.Letters.{seek, place}
+use Rattle.coins.specs.Mails.{Taking}
 
 -- what a call leaves and answers; what a message leaves, and what becomes of it
 pub record Called : Type 0 where
@@ -38,11 +37,11 @@ given_of b letter = cond (is_open b letter) (slice_index b.given (place b.letter
 abbrev pub back_of : Boss → ℕ → ℕ
 back_of b letter = cond (is_open b letter) (slice_index b.back (place b.letters letter)) 0
 
-abbrev pub send : NodeId → LetterId → Kind → Post
-send to letter kind = Send (record { sender = record { number = boss_number }; receiver = to; letter = letter; kind = kind })
+abbrev pub send : NodeId → LetterId → Kind → Mail
+send to letter kind = record { sender = record { number = boss_number }; receiver = to; letter = letter; kind = kind }
 
 abbrev pub refuse : Boss → Refusal → Called
-refuse b why = record { boss = b; outcome = record { answer = Refused why; post = Nothing } }
+refuse b why = record { boss = b; outcome = record { answer = Refused why; post = None } }
 
 -- so many coins more are given out of the letter at place i
 abbrev pub granted : Boss → ℕ → Boss
@@ -58,14 +57,14 @@ abbrev pub give_open : Boss → LetterId → NodeId → ℕ → ℕ → Called
 give_open b letter to room i =
     cond (nat_lt (slice_index b.given i + grant) limit)
     (cond (room == 0) (refuse b NoPlace)
-    (record { boss = granted b i; outcome = record { answer = Fine; post = send to letter (Work grant) } }))
+    (record { boss = granted b i; outcome = record { answer = Fine; post = Some (send to letter (Work grant)) } }))
     (refuse b CountsUsed)
 
 abbrev pub give_at : Boss → LetterId → NodeId → ℕ → ℕ → Called
 give_at b letter to room i =
     cond (nat_lt i 64)
     (cond (room == 0) (refuse b NoPlace)
-    (record { boss = entered b letter.number i letter.number grant; outcome = record { answer = Fine; post = send to letter (Work grant) } }))
+    (record { boss = entered b letter.number i letter.number grant; outcome = record { answer = Fine; post = Some (send to letter (Work grant)) } }))
     (refuse b LettersFull)
 
 abbrev pub give_new : Boss → LetterId → NodeId → ℕ → Called
@@ -83,7 +82,7 @@ give_step b letter to room =
 abbrev pub say_at : Boss → ℕ → Called
 say_at b i =
     cond (slice_index b.given i == slice_index b.back i)
-    (record { boss = entered b b.highest i 0 0; outcome = record { answer = Done; post = Nothing } })
+    (record { boss = entered b b.highest i 0 0; outcome = record { answer = Done; post = None } })
     (refuse b CoinsOut)
 
 abbrev pub say_step : Boss → LetterId → Called
@@ -91,13 +90,13 @@ say_step b letter =
     cond (nat_lt (place b.letters letter.number) 64) (say_at b (place b.letters letter.number)) (refuse b NoLetter)
 
 abbrev pub turned : Boss → Refusal → TookIn
-turned b why = record { boss = b; taking = Turned why }
+turned b why = record { boss = b; taking = Err (Turned why) }
 
 -- Coins have come back: some, of an open letter, and no more than are out
 abbrev pub back_at : Boss → ℕ → ℕ → TookIn
 back_at b c i =
     cond (nat_le (slice_index b.back i + c) (slice_index b.given i))
-    (record { boss = record { highest = b.highest; letters = b.letters; given = b.given; back = slice_set b.back i (slice_index b.back i + c) }; taking = Took Nothing })
+    (record { boss = record { highest = b.highest; letters = b.letters; given = b.given; back = slice_set b.back i (slice_index b.back i + c) }; taking = Ok None })
     (turned b Malformed)
 
 abbrev pub back_step : Boss → LetterId → ℕ → TookIn
@@ -108,15 +107,15 @@ back_step b letter c =
 abbrev pub ask_at : Boss → NodeId → LetterId → ℕ → TookIn
 ask_at b sender letter i =
     cond (nat_lt (slice_index b.given i + grant) limit)
-    (record { boss = granted b i; taking = Took (send sender letter (More grant)) })
-    (record { boss = b; taking = Took (send sender letter NoMore) })
+    (record { boss = granted b i; taking = Ok (Some (send sender letter (More grant))) })
+    (record { boss = b; taking = Ok (Some (send sender letter NoMore)) })
 
 abbrev pub ask_step : Boss → NodeId → LetterId → ℕ → TookIn
 ask_step b sender letter room =
-    cond (room == 0) (record { boss = b; taking = Later })
+    cond (room == 0) (record { boss = b; taking = Err Later })
     (cond (nat_lt (place b.letters letter.number) 64)
     (ask_at b sender letter (place b.letters letter.number))
-    (record { boss = b; taking = Took (send sender letter NoMore) }))
+    (record { boss = b; taking = Ok (Some (send sender letter NoMore)) }))
 
 -- a message has come to the boss; room: the places that there are towards its sender
 abbrev pub receive_step : Boss → NodeId → LetterId → Kind → ℕ → TookIn

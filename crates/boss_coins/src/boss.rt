@@ -1,13 +1,13 @@
 // The boss: what it gives out, what comes back, and when it says that a letter is done.
-ghost use Rattle.std.specs.Prelude.{◌≡◌, ◌+◌, ◌<◌};
-ghost use Rattle.boss_coins.specs.Bosses.{new_boss, given_of, back_of, is_open, give_step, give_open, give_new, say_step, back_step, ask_step, receive_step};
+ghost use Rattle.std.specs.Prelude.{◌≡◌, ◌+◌, ◌<◌, None};
+ghost use Rattle.boss_coins.specs.Bosses.{new_boss, given_of, back_of, is_open, send, give_step, give_open, give_new, say_step, back_step, ask_step, receive_step};
 
 use crate::counts::add;
 use coins::answer::{Answer, Refusal};
 use coins::ids::{LetterId, NodeId};
-use coins::letters::{LETTERS, find, first};
+use coins::letters::{find, first};
 use coins::limits::fits;
-use coins::mail::{Kind, Mail, Outcome, Post, Taking};
+use coins::mail::{Kind, Mail, Outcome, Taking, Untaken};
 
 // The coins that go with work from the boss, and to who asks for more.
 pub const GRANT: u32 = 1 << 20;
@@ -45,34 +45,33 @@ impl Boss {
     pub fn is_open(&self, letter: LetterId) -> bool
         ensures { result ≡ is_open self.now letter.number }
     {
-        find(&self.letters, letter) < LETTERS
+        find(&self.letters, letter).is_some()
     }
 
     // How many coins of an open letter were ever given out.
     pub fn given(&self, letter: LetterId) -> u64
         ensures { result ≡ given_of self.now letter.number }
     {
-        let i = find(&self.letters, letter);
-        if i < LETTERS { self.given[i] } else { 0 }
+        find(&self.letters, letter).map_or(0, |i| self.given[i])
     }
 
     // How many of them came back.
     pub fn back(&self, letter: LetterId) -> u64
         ensures { result ≡ back_of self.now letter.number }
     {
-        let i = find(&self.letters, letter);
-        if i < LETTERS { self.back[i] } else { 0 }
+        find(&self.letters, letter).map_or(0, |i| self.back[i])
     }
 
-    fn post(to: NodeId, letter: LetterId, kind: Kind) -> Post
-        ensures { result ≡ Post.Send (record { sender = record { number = 65535 }; receiver = to; letter = letter; kind = kind }) }
+    // A message to a helper.
+    fn mail(to: NodeId, letter: LetterId, kind: Kind) -> Mail
+        ensures { result ≡ send to letter kind }
     {
-        Post::Send(Mail {
+        Mail {
             sender: NodeId::boss(),
             receiver: to,
             letter,
             kind,
-        })
+        }
     }
 
     // Gives work of a letter to a helper, towards whom there are so many places. The first opens the letter.
@@ -82,11 +81,9 @@ impl Boss {
         if to.number > 255 {
             return Outcome::refused(Refusal::Malformed);
         }
-        let i = find(&self.letters, letter);
-        if i < LETTERS {
-            self.give_open(letter, to, room, i)
-        } else {
-            self.give_new(letter, to, room)
+        match find(&self.letters, letter) {
+            Some(i) => self.give_open(letter, to, room, i),
+            None => self.give_new(letter, to, room),
         }
     }
 
@@ -101,7 +98,7 @@ impl Boss {
             return Outcome::refused(Refusal::NoPlace);
         }
         add(&mut self.given, i, GRANT as u64);
-        Outcome::fine(Boss::post(to, letter, Kind::Work(GRANT as u64)))
+        Outcome::fine(Some(Boss::mail(to, letter, Kind::Work(GRANT as u64))))
     }
 
     fn give_new(&mut self, letter: LetterId, to: NodeId, room: usize) -> Outcome
@@ -110,10 +107,9 @@ impl Boss {
         if letter.number <= self.highest {
             return Outcome::refused(Refusal::NoLetter);
         }
-        let i = first(&self.letters, 0);
-        if i >= LETTERS {
+        let Some(i) = first(&self.letters, 0) else {
             return Outcome::refused(Refusal::LettersFull);
-        }
+        };
         if room == 0 {
             return Outcome::refused(Refusal::NoPlace);
         }
@@ -121,17 +117,16 @@ impl Boss {
         self.letters[i] = letter.number;
         self.given[i] = GRANT as u64;
         self.back[i] = 0;
-        Outcome::fine(Boss::post(to, letter, Kind::Work(GRANT as u64)))
+        Outcome::fine(Some(Boss::mail(to, letter, Kind::Work(GRANT as u64))))
     }
 
     // Says that a letter is done, if all its coins came back.
     pub fn say(&mut self, letter: LetterId) -> Answer
-        ensures { say_step self.old letter ≡ record { boss = self.new; outcome = record { answer = result; post = Post.Nothing } } }
+        ensures { say_step self.old letter ≡ record { boss = self.new; outcome = record { answer = result; post = None } } }
     {
-        let i = find(&self.letters, letter);
-        if i >= LETTERS {
+        let Some(i) = find(&self.letters, letter) else {
             return Answer::Refused(Refusal::NoLetter);
-        }
+        };
         if self.given[i] != self.back[i] {
             return Answer::Refused(Refusal::CoinsOut);
         }
@@ -145,17 +140,14 @@ impl Boss {
     fn take_back(&mut self, letter: LetterId, coins: u64) -> Taking
         ensures { back_step self.old letter coins ≡ record { boss = self.new; taking = result } }
     {
-        let i = find(&self.letters, letter);
-        if coins == 0 || i >= LETTERS {
-            return Taking::Refused(Refusal::Malformed);
-        }
+        let i = find(&self.letters, letter).ok_or(Refusal::Malformed)?;
         let given = self.given[i];
         let back = self.back[i];
-        if given.saturating_sub(back) < coins {
-            return Taking::Refused(Refusal::Malformed);
+        if coins == 0 || given.saturating_sub(back) < coins {
+            return Err(Untaken::Refused(Refusal::Malformed));
         }
         self.back[i] = back + coins;
-        Taking::Took(Post::Nothing)
+        Ok(None)
     }
 
     // A helper asks for more coins: it gets as many as work gets, or the answer that there are none.
@@ -163,29 +155,27 @@ impl Boss {
         ensures { ask_step self.old sender letter room ≡ record { boss = self.new; taking = result } }
     {
         if room == 0 {
-            return Taking::Later;
+            return Err(Untaken::Later);
         }
-        let i = find(&self.letters, letter);
-        if i >= LETTERS {
-            return Taking::Took(Boss::post(sender, letter, Kind::NoMore));
+        match find(&self.letters, letter) {
+            Some(i) if fits(self.given[i], GRANT as u64) => {
+                add(&mut self.given, i, GRANT as u64);
+                Ok(Some(Boss::mail(sender, letter, Kind::More(GRANT as u64))))
+            }
+            _ => Ok(Some(Boss::mail(sender, letter, Kind::NoMore))),
         }
-        if !fits(self.given[i], GRANT as u64) {
-            return Taking::Took(Boss::post(sender, letter, Kind::NoMore));
-        }
-        add(&mut self.given, i, GRANT as u64);
-        Taking::Took(Boss::post(sender, letter, Kind::More(GRANT as u64)))
     }
 
     // A message has come from a helper, towards whom there are so many places.
-    pub fn arrive(&mut self, sender: NodeId, letter: LetterId, kind: Kind, room: usize) -> Taking
-        ensures { receive_step self.old sender letter kind room ≡ record { boss = self.new; taking = result } }
+    pub fn arrive(&mut self, mail: Mail, room: usize) -> Taking
+        ensures { receive_step self.old mail.sender mail.letter mail.kind room ≡ record { boss = self.new; taking = result } }
     {
-        match kind {
-            Kind::Back(coins) => self.take_back(letter, coins),
-            Kind::Ask => self.asked(sender, letter, room),
-            Kind::Work(_) => Taking::Refused(Refusal::Malformed),
-            Kind::More(_) => Taking::Refused(Refusal::Malformed),
-            Kind::NoMore => Taking::Refused(Refusal::Malformed),
+        match mail.kind {
+            Kind::Back(coins) => self.take_back(mail.letter, coins),
+            Kind::Ask => self.asked(mail.sender, mail.letter, room),
+            Kind::Work(_) | Kind::More(_) | Kind::NoMore => {
+                Err(Untaken::Refused(Refusal::Malformed))
+            }
         }
     }
 

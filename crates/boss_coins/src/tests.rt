@@ -2,7 +2,7 @@
 use crate::boss::Boss;
 use coins::answer::Answer;
 use coins::ids::{LetterId, NodeId};
-use coins::mail::{Kind, Post, Taking};
+use coins::mail::{Kind, Mail, Taking};
 
 // What was given before; the number that a give is refused with, or 0; and the coins that an ask gets.
 const GIVEN: [(u64, u8, u64); 5] = [
@@ -22,8 +22,8 @@ fn number_of(answer: Answer) -> u8 {
 
 fn coins_of(taking: Taking) -> u64 {
     match taking {
-        Taking::Took(Post::Send(mail)) => mail.kind.coins(),
-        Taking::Took(Post::Nothing) | Taking::Later | Taking::Refused(_) => 0,
+        Ok(Some(mail)) => mail.kind.coins(),
+        Ok(None) | Err(_) => 0,
     }
 }
 
@@ -35,6 +35,12 @@ fn a_boss_stays_below_its_limit(rt: HostRuntime) {
         let mut boss = Boss::given_before(letter, given);
         assert_eq!(rt; number_of(boss.give(letter, helper, 1).answer), refused);
         let mut boss = Boss::given_before(letter, given);
-        assert_eq!(rt; coins_of(boss.arrive(helper, letter, Kind::Ask, 1)), more);
+        let ask = Mail {
+            sender: helper,
+            receiver: NodeId::boss(),
+            letter,
+            kind: Kind::Ask,
+        };
+        assert_eq!(rt; coins_of(boss.arrive(ask, 1)), more);
     }
 }

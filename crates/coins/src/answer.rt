@@ -3,7 +3,7 @@ ghost use Rattle.std.specs.Prelude.{◌≡◌};
 ghost use Rattle.coins.specs.Refusals.{refusal_number};
 
 // Why a call or a message is refused.
-#[derive(Clone, Copy)]
+#[derive(Clone, Copy, Debug, PartialEq, Eq)]
 pub enum Refusal {
     // a helper above 255, no coins where coins belong, a kind that does not go that way, or coins that can't be
     Malformed,
@@ -48,7 +48,7 @@ impl Refusal {
 }
 
 // What a call answers.
-#[derive(Clone, Copy)]
+#[derive(Clone, Copy, Debug, PartialEq, Eq)]
 pub enum Answer {
     Fine,
     // the boss says that the letter is done

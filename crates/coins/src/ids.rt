@@ -3,13 +3,13 @@ ghost use Rattle.std.specs.Prelude.{◌≡◌};
 ghost use Rattle.coins.specs.Limits.{boss_number};
 
 // A letter: one job. Letters are numbered from 1, and a number is never used again.
-#[derive(Clone, Copy)]
+#[derive(Clone, Copy, Debug, PartialEq, Eq)]
 pub struct LetterId {
     pub number: u32,
 }
 
 // Who sends and receives: a helper, 0 to 255, or the boss, 65,535.
-#[derive(Clone, Copy)]
+#[derive(Clone, Copy, Debug, PartialEq, Eq)]
 pub struct NodeId {
     pub number: u16,
 }

@@ -1,31 +1,26 @@
 // Which of the 64 places a letter has.
-ghost use Rattle.std.specs.Prelude.{◌≡◌, ◌≤◌, length};
-ghost use Rattle.coins.specs.Letters.{seek, place};
+ghost use Rattle.std.specs.Prelude.{◌≡◌, ◌==◌};
+ghost use Rattle.std.specs.List.{position};
+ghost use Rattle.coins.specs.Letters.{found};
 
 use crate::ids::LetterId;
 
 // How many letters may be open at a time.
 pub const LETTERS: usize = 64;
 
-// The first place that has this number, or the length where none has. Free places have number 0.
-pub fn first(numbers: &[u32], number: u32) -> usize
-    ensures value { result ≡ seek numbers.now number }
-    ensures within { result ≤ length numbers.now }
+// The first place that has this number. Free places have number 0.
+pub fn first(numbers: &[u32], number: u32) -> Option<usize>
+    ensures { result ≡ position (λ n. n == number) numbers.now }
 {
-    for (i, n) in numbers.iter().enumerate() {
-        if *n == number {
-            return i;
-        }
-    }
-    numbers.len()
+    numbers.iter().position(|n| *n == number)
 }
 
-// The place of a letter among 64 numbers, or 64 where it has none. The number 0 is no letter.
-pub fn find(numbers: &[u32], letter: LetterId) -> usize
-    ensures { result ≡ place numbers.now letter.number }
+// The place of a letter among those that are open. The number 0 is no letter.
+pub fn find(numbers: &[u32], letter: LetterId) -> Option<usize>
+    ensures { result ≡ found numbers.now letter.number }
 {
     if letter.number == 0 {
-        LETTERS
+        None
     } else {
         first(numbers, letter.number)
     }

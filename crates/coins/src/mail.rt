@@ -1,12 +1,13 @@
 // What boss and helpers send each other.
-ghost use Rattle.std.specs.Prelude.{◌≡◌};
+ghost use Rattle.std.specs.Prelude.{◌≡◌, None};
 ghost use Rattle.coins.specs.Mails.{kind_number, coins_in};
+ghost use Rattle.coins.specs.declared.mail.Untaken.TheVariants.{Refused};
 
 use crate::answer::{Answer, Refusal};
 use crate::ids::{LetterId, NodeId};
 
 // What a message is, with its coins.
-#[derive(Clone, Copy)]
+#[derive(Clone, Copy, Debug, PartialEq, Eq)]
 pub enum Kind {
     // work for a helper, and coins that make it count
     Work(u64),
@@ -49,7 +50,7 @@ impl Kind {
 }
 
 // A message of a letter.
-#[derive(Clone, Copy)]
+#[derive(Clone, Copy, Debug, PartialEq, Eq)]
 pub struct Mail {
     pub sender: NodeId,
     pub receiver: NodeId,
@@ -57,41 +58,43 @@ pub struct Mail {
     pub kind: Kind,
 }
 
-// What a step sends: at most one message.
-#[derive(Clone, Copy)]
-pub enum Post {
-    Nothing,
-    Send(Mail),
-}
-
-// What a call answers and sends.
+// What a call answers and sends: at most one message.
 #[derive(Clone, Copy)]
 pub struct Outcome {
     pub answer: Answer,
-    pub post: Post,
+    pub post: Option<Mail>,
 }
 
-// What becomes of a message that came.
-#[derive(Clone, Copy)]
-pub enum Taking {
-    // it is taken, and this is sent
-    Took(Post),
-    // there is no place for its answer: it is not taken, and comes again
+// Why a message that came is not taken.
+#[derive(Clone, Copy, Debug, PartialEq, Eq)]
+pub enum Untaken {
+    // there is no place for its answer: it comes again
     Later,
     Refused(Refusal),
 }
 
+impl From<Refusal> for Untaken {
+    ghost from_gives = { λ why untaken. untaken ≡ Refused why };
+
+    fn from(why: Refusal) -> Untaken {
+        Untaken::Refused(why)
+    }
+}
+
+// What becomes of a message that came: it is taken, and this is sent; or it is not.
+pub type Taking = Result<Option<Mail>, Untaken>;
+
 impl Outcome {
     pub fn refused(why: Refusal) -> Outcome
-        ensures { result ≡ record { answer = Answer.Refused why; post = Post.Nothing } }
+        ensures { result ≡ record { answer = Answer.Refused why; post = None } }
     {
         Outcome {
             answer: Answer::Refused(why),
-            post: Post::Nothing,
+            post: None,
         }
     }
 
-    pub fn fine(post: Post) -> Outcome
+    pub fn fine(post: Option<Mail>) -> Outcome
         ensures { result ≡ record { answer = Answer.Fine; post = post } }
     {
         Outcome {

@@ -1,14 +1,16 @@
 // A helper: what it does with work and coins of all its letters.
-ghost use Rattle.std.specs.Prelude.{◌≡◌, ◌+◌, ◌-◌, ◌<◌, ◌≤◌, length, nat_lt};
+ghost use Rattle.std.specs.Prelude.{◌≡◌, ◌<◌, ◌≤◌, Some, MatchOption, nat_lt};
+ghost use Rattle.std.specs.List.{position};
+ghost use Rattle.helper_coins.specs.Holdings.{waits};
 ghost use Rattle.coins.specs.Letters.{place};
-ghost use Rattle.helper_coins.specs.Helpers.{new_helper, holding_of, slot_for, write, clear, seek_waiting, share_step, ask_at, rest_step, flush_step, work_step, more_step, no_more_step, arrive_step};
+ghost use Rattle.helper_coins.specs.Helpers.{new_helper, holding_of, slot_for, write, clear, to_boss, counted, seek_waiting, share_step, ask_at, rest_step, vacated, flush_step, work_step, more_step, no_more_step, arrive_step};
 
 use crate::holding::Holding;
 use coins::answer::{Answer, Refusal};
 use coins::ids::{LetterId, NodeId};
-use coins::letters::{LETTERS, find, first};
+use coins::letters::{find, first};
 use coins::limits::fits;
-use coins::mail::{Kind, Mail, Outcome, Post, Taking};
+use coins::mail::{Kind, Mail, Outcome, Taking, Untaken};
 
 // A helper's state: for each of up to 64 letters its number, 0 where the place is free, and its holding.
 #[derive(Drop)]
@@ -16,19 +18,6 @@ pub struct Helper {
     me: NodeId,
     letters: [u32; 64],
     holdings: [Holding; 64],
-}
-
-// The first holding that is not at work and has coins, or the length.
-fn first_waiting(holdings: &[Holding]) -> usize
-    ensures value { result ≡ seek_waiting holdings.now }
-    ensures within { result ≤ length holdings.now }
-{
-    for (i, h) in holdings.iter().enumerate() {
-        if h.is_waiting() {
-            return i;
-        }
-    }
-    holdings.len()
 }
 
 impl Helper {
@@ -53,31 +42,30 @@ impl Helper {
     pub fn holding(&self, letter: LetterId) -> Holding
         ensures { result ≡ holding_of self.now letter.number }
     {
-        let place = find(&self.letters, letter);
-        if place < LETTERS {
-            self.holdings[place]
-        } else {
-            Holding::idle()
-        }
+        find(&self.letters, letter).map_or(Holding::idle(), |i| self.holdings[i])
     }
 
     // Whether coins of some letter wait for a place.
     pub fn is_waiting(&self) -> bool
         ensures { result ≡ nat_lt (seek_waiting self.now.holdings) 64 }
     {
-        first_waiting(&self.holdings) < LETTERS
+        self.first_waiting().is_some()
     }
 
-    // The place that the letter has, or else a free one, or else 64.
-    fn slot_for(&self, letter: LetterId) -> usize
-        ensures { result ≡ slot_for self.now letter.number }
+    // The first letter that it is not at work on and has coins of.
+    fn first_waiting(&self) -> Option<usize>
+        ensures { result ≡ position waits self.now.holdings }
     {
-        let i = find(&self.letters, letter);
-        if i < LETTERS {
-            i
-        } else {
-            first(&self.letters, 0)
-        }
+        self.holdings
+            .iter()
+            .position(|holding| holding.is_waiting())
+    }
+
+    // The place that the letter has, or else a free one.
+    fn slot_for(&self, letter: LetterId) -> Option<usize>
+        ensures { MatchOption result (64 ≤ slot_for self.now letter.number) (λ i. (i ≡ slot_for self.now letter.number) × (i < 64)) }
+    {
+        find(&self.letters, letter).or_else(|| first(&self.letters, 0))
     }
 
     fn write(&mut self, i: usize, letter: LetterId, holding: Holding)
@@ -92,22 +80,22 @@ impl Helper {
     fn clear(&mut self, letter: LetterId)
         ensures { self.new ≡ clear self.old (place self.old.letters letter.number) }
     {
-        let i = find(&self.letters, letter);
-        if i < LETTERS {
+        if let Some(i) = find(&self.letters, letter) {
             self.letters[i] = 0;
             self.holdings[i] = Holding::idle();
         }
     }
 
-    fn to_boss(&self, letter: LetterId, kind: Kind) -> Post
-        ensures { result ≡ Post.Send (record { sender = self.now.me; receiver = record { number = 65535 }; letter = letter; kind = kind }) }
+    // A message to the boss.
+    fn to_boss(&self, letter: LetterId, kind: Kind) -> Mail
+        ensures { result ≡ to_boss self.now letter kind }
     {
-        Post::Send(Mail {
+        Mail {
             sender: self.me,
             receiver: NodeId::boss(),
             letter,
             kind,
-        })
+        }
     }
 
     // Gives work on to a helper, with the smaller half of the coins. `peer` and `boss` are the places that
@@ -118,10 +106,9 @@ impl Helper {
         if to.number > 255 {
             return Outcome::refused(Refusal::Malformed);
         }
-        let i = find(&self.letters, letter);
-        if i >= LETTERS {
+        let Some(i) = find(&self.letters, letter) else {
             return Outcome::refused(Refusal::NoLetter);
-        }
+        };
         let holding = self.holdings[i];
         if !holding.working {
             return Outcome::refused(Refusal::NotWorking);
@@ -129,15 +116,15 @@ impl Helper {
         if holding.coins < 2 {
             return self.ask(letter, i, holding, boss);
         }
-        if to.number == self.me.number {
-            return Outcome::fine(Post::Nothing);
+        if to == self.me {
+            return Outcome::fine(None);
         }
         if peer == 0 {
             return Outcome::refused(Refusal::NoPlace);
         }
         let (rest, half) = holding.split();
         self.holdings[i] = rest;
-        Outcome::fine(Post::Send(Mail {
+        Outcome::fine(Some(Mail {
             sender: self.me,
             receiver: to,
             letter,
@@ -154,10 +141,9 @@ impl Helper {
             return Outcome::refused(Refusal::OneCoin);
         }
         self.holdings[i] = holding.ask();
-        let post = self.to_boss(letter, Kind::Ask);
         Outcome {
             answer: Answer::Refused(Refusal::OneCoin),
-            post,
+            post: Some(self.to_boss(letter, Kind::Ask)),
         }
     }
 
@@ -165,10 +151,9 @@ impl Helper {
     pub fn rest(&mut self, letter: LetterId, boss: usize) -> Outcome
         ensures { rest_step self.old letter boss ≡ record { helper = self.new; outcome = result } }
     {
-        let i = find(&self.letters, letter);
-        if i >= LETTERS {
+        let Some(i) = find(&self.letters, letter) else {
             return Outcome::refused(Refusal::NoLetter);
-        }
+        };
         let holding = self.holdings[i];
         if !holding.working {
             return Outcome::refused(Refusal::NotWorking);
@@ -177,17 +162,24 @@ impl Helper {
             return Outcome::refused(Refusal::NoPlace);
         }
         self.clear(letter);
-        Outcome::fine(self.to_boss(letter, Kind::Back(holding.coins)))
+        Outcome::fine(Some(self.to_boss(letter, Kind::Back(holding.coins))))
     }
 
     // Sends coins back that waited for a place: of the first such letter, if there is a place now.
-    pub fn flush(&mut self, boss: usize) -> Post
+    pub fn flush(&mut self, boss: usize) -> Option<Mail>
         ensures { flush_step self.old boss ≡ record { helper = self.new; post = result } }
     {
-        let i = first_waiting(&self.holdings);
-        if i >= LETTERS || boss == 0 {
-            return Post::Nothing;
+        match self.first_waiting() {
+            Some(i) if boss > 0 => Some(self.vacate(i)),
+            _ => None,
         }
+    }
+
+    // The coins of a place go back, and it is free.
+    fn vacate(&mut self, i: usize) -> Mail
+        requires { i < 64 }
+        ensures { vacated self.old i ≡ record { helper = self.new; post = Some result } }
+    {
         let letter = LetterId {
             number: self.letters[i],
         };
@@ -197,74 +189,63 @@ impl Helper {
         self.to_boss(letter, Kind::Back(coins))
     }
 
+    // What it has of a letter that coins have come of, if they can be: some, and few enough, of a letter.
+    fn counted(&self, letter: LetterId, coins: u64) -> Result<Holding, Refusal>
+        ensures { result ≡ counted self.now letter coins }
+    {
+        let holding = self.holding(letter);
+        if coins == 0 || !fits(holding.coins, coins) {
+            return Err(Refusal::Malformed);
+        }
+        if letter.number == 0 {
+            return Err(Refusal::NoLetter);
+        }
+        Ok(holding)
+    }
+
     // Work has come.
     fn work(&mut self, letter: LetterId, coins: u64) -> Taking
         ensures { work_step self.old letter coins ≡ record { helper = self.new; taking = result } }
     {
-        let holding = self.holding(letter);
-        if coins == 0 || !fits(holding.coins, coins) {
-            return Taking::Refused(Refusal::Malformed);
-        }
-        if letter.number == 0 {
-            return Taking::Refused(Refusal::NoLetter);
-        }
-        let i = self.slot_for(letter);
-        if i >= LETTERS {
-            return Taking::Refused(Refusal::LettersFull);
-        }
+        let holding = self.counted(letter, coins)?;
+        let i = self.slot_for(letter).ok_or(Refusal::LettersFull)?;
         self.write(i, letter, holding.take(coins));
-        Taking::Took(Post::Nothing)
+        Ok(None)
     }
 
     // Coins alone have come: for who is at work they join the others, and else they go back.
     fn more(&mut self, letter: LetterId, coins: u64, boss: usize) -> Taking
         ensures { more_step self.old letter coins boss ≡ record { helper = self.new; taking = result } }
     {
-        let holding = self.holding(letter);
-        if coins == 0 || !fits(holding.coins, coins) {
-            return Taking::Refused(Refusal::Malformed);
-        }
-        if letter.number == 0 {
-            return Taking::Refused(Refusal::NoLetter);
-        }
+        let holding = self.counted(letter, coins)?;
         if !holding.working && boss > 0 {
             self.clear(letter);
-            return Taking::Took(self.to_boss(letter, Kind::Back(holding.coins + coins)));
+            return Ok(Some(self.to_boss(letter, Kind::Back(holding.coins + coins))));
         }
-        let i = self.slot_for(letter);
-        if i >= LETTERS {
-            return Taking::Later;
-        }
+        let i = self.slot_for(letter).ok_or(Untaken::Later)?;
         self.write(i, letter, holding.answer(coins));
-        Taking::Took(Post::Nothing)
+        Ok(None)
     }
 
     // The boss has no coins to give.
     fn no_more(&mut self, letter: LetterId) -> Taking
         ensures { no_more_step self.old letter ≡ record { helper = self.new; taking = result } }
     {
-        let i = find(&self.letters, letter);
-        if i < LETTERS {
-            let holding = self.holdings[i];
-            self.holdings[i] = Holding {
-                working: holding.working,
-                coins: holding.coins,
-                asked: false,
-            };
+        if let Some(i) = find(&self.letters, letter) {
+            self.holdings[i].asked = false;
         }
-        Taking::Took(Post::Nothing)
+        Ok(None)
     }
 
-    // A message has come.
-    pub fn arrive(&mut self, letter: LetterId, kind: Kind, boss: usize) -> Taking
-        ensures { arrive_step self.old letter kind boss ≡ record { helper = self.new; taking = result } }
+    // A message has come; `boss` are the places that there are towards the boss.
+    pub fn arrive(&mut self, mail: Mail, boss: usize) -> Taking
+        ensures { arrive_step self.old mail.letter mail.kind boss ≡ record { helper = self.new; taking = result } }
     {
-        match kind {
-            Kind::Work(coins) => self.work(letter, coins),
-            Kind::More(coins) => self.more(letter, coins, boss),
-            Kind::NoMore => self.no_more(letter),
-            Kind::Back(_) => Taking::Refused(Refusal::Malformed),
-            Kind::Ask => Taking::Refused(Refusal::Malformed),
+        match mail.kind {
+            Kind::Work(coins) => self.work(mail.letter, coins),
+            Kind::More(coins) => self.more(mail.letter, coins, boss),
+            Kind::NoMore => self.no_more(mail.letter),
+            Kind::Back(_) | Kind::Ask => Err(Untaken::Refused(Refusal::Malformed)),
         }
     }
 }

@@ -7,7 +7,7 @@ use crate::purse::Coins;
 
 // A helper's state of a letter: whether it is at work on it, how many coins of it it has, and whether it
 // asked for more and has no answer yet.
-#[derive(Clone, Copy)]
+#[derive(Clone, Copy, Debug, PartialEq, Eq)]
 pub struct Holding {
     pub working: bool,
     pub coins: u64,
@@ -41,7 +41,7 @@ impl Holding {
         Holding {
             working: true,
             coins: self.coins + coins,
-            asked: self.asked,
+            ..self
         }
     }
 
@@ -51,14 +51,8 @@ impl Holding {
         ensures half { result.1 ≡ self.coins / 2 }
     {
         let (rest, half) = Coins::of(self.coins).split();
-        (
-            Holding {
-                working: self.working,
-                coins: rest.counted(),
-                asked: self.asked,
-            },
-            half.counted(),
-        )
+        let coins = rest.counted();
+        (Holding { coins, ..self }, half.counted())
     }
 
     // It has asked for more.
@@ -66,9 +60,8 @@ impl Holding {
         ensures { result ≡ waiting self }
     {
         Holding {
-            working: self.working,
-            coins: self.coins,
             asked: true,
+            ..self
         }
     }
 
@@ -78,9 +71,9 @@ impl Holding {
         ensures { result ≡ answered self coins }
     {
         Holding {
-            working: self.working,
             coins: self.coins + coins,
             asked: false,
+            ..self
         }
     }
 }
