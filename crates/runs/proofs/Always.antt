@@ -1,11 +1,10 @@
 -- What holds of every world that is reached, by induction over its run.
-use Rattle.std.proofs.Common.{◌≡◌, ℕ, zero, suc, ◌<◌, ◌≤◌, Bool, true, false, ◌⊎◌, List, [], ◌∷◌, ◌++◌, length, take, drop, All, sym, refl, ap, ◌∙◌, subst, inl, inr, arith}
+use Rattle.std.proofs.Common.{◌≡◌, ℕ, zero, suc, ◌<◌, ◌≤◌, Bool, true, false, ◌⊎◌, List, [], ◌∷◌, ◌++◌, length, take, drop, All, sym, refl, ap, ◌∙◌, subst, inl, inr, arith, Ok}
 use Rattle.std.proofs.lemmas.List.{length_push, get_or_push, get_or_append_left, get_or_past}
 use Rattle.std.proofs.lemmas.List.Elements.{All-nil, All-head, All-tail, All-get_or}
 use Rattle.std.proofs.lemmas.Bool.{eq-eqb}
 use Rattle.std.proofs.lemmas.Bool.Decides.{eqb_tells, leb_tells}
 use Rattle.coins.specs.declared.mail.Mail.{Mail}
-use Rattle.coins.specs.declared.mail.Taking.TheVariants.{Took}
 use Rattle.helper_coins.specs.declared.helper.Helper.{Helper}
 use Rattle.helper_coins.specs.declared.holding.Holding.{Holding}
 use Rattle.helper_coins.specs.Holdings.{idle}
@@ -71,7 +70,7 @@ step_did (shares w i letter to peer boss l r) W = share_did w W.order i l letter
 step_did (rests w i letter boss l) W = rest_did w W.order i l letter boss
 step_did (flushes w i boss l) W = flush_did w W.order i l boss
 step_did (comes w k i boss h p f r l e) W =
-    subst (λ (j : ℕ). j < length w.helpers → arrive_step (helper_at w.helpers j) (mail_at w.post k).letter (mail_at w.post k).kind boss ≡ record { helper = h; taking = Took p } →
+    subst (λ (j : ℕ). j < length w.helpers → arrive_step (helper_at w.helpers j) (mail_at w.post k).letter (mail_at w.post k).kind boss ≡ record { helper = h; taking = Ok p } →
     Did (mail_at w.post k).letter.number false 1 w (helper_did (without w k) j h p)) r
     (λ lt q. come_did w W.order k f.inside lt boss h p q) l e
 step_did (returns w k room b p f r e) W = return_did w W.order k f.inside r (fine_at w W k f.inside) room b p e

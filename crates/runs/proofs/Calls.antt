@@ -1,14 +1,14 @@
 -- What a helper's calls are for each letter.
-use Rattle.std.proofs.Common.{◌≡◌, ℕ, suc, ◌<◌, ◌≤◌, true, false, not, ◌&&◌, ◌||◌, eqb, ltb, List, [], ◌∷◌, ◌++◌, length, get_or, sym, refl, ap, ◌∙◌, subst, arith, ltb-false, ltb-true}
+use Rattle.std.proofs.Common.{◌≡◌, ℕ, ◌<◌, ◌≤◌, true, false, not, ◌&&◌, ◌||◌, eqb, ltb, List, [], ◌∷◌, ◌++◌, length, get_or, sym, refl, ap, ◌∙◌, subst, arith, ltb-false, ltb-true, None, Some}
 use Rattle.std.proofs.lemmas.List.{set-get_or}
 use Rattle.std.proofs.lemmas.List.Elements.{All-push}
 use Rattle.std.proofs.lemmas.Bool.{eq-eqb, ne_eqb}
 use Rattle.std.proofs.lemmas.Bool.Decides.{nat_tests}
+use Rattle.std.proofs.lemmas.List.Sums.{passes_at_first}
 use Rattle.coins.specs.declared.ids.LetterId.{LetterId}
 use Rattle.coins.specs.declared.ids.NodeId.{NodeId}
 use Rattle.coins.specs.declared.mail.Kind.TheVariants.{Back}
 use Rattle.coins.specs.declared.mail.Mail.{Mail}
-use Rattle.coins.specs.declared.mail.Post.TheVariants.{Nothing, Send}
 use Rattle.helper_coins.specs.declared.helper.Helper.{Helper}
 use Rattle.helper_coins.specs.declared.holding.Holding.{Holding}
 use Rattle.coins.specs.Limits.{boss_number}
@@ -24,12 +24,6 @@ use Rattle.runs.proofs.Views.{held_get, held_length, send_own, send_other}
 use Rattle.runs.proofs.Turns.{Order, Turn, Did, nothing_did, helper_did_moves, turn_shares, turn_asks, turn_rests, turn_flushes}
 
 -- where the first waiting coins stand, coins wait
-pub waiting_at : (xs : List Holding) → seek_waiting xs < length xs → waits (at xs (seek_waiting xs)) ≡ true
-unfolding seek_waiting
-waiting_at [] h = absurd (omega arith)
-waiting_at (x ∷ xs) h =
-    by_test (λ k. k < suc (length xs) → waits (at (x ∷ xs) k) ≡ true) (waits x) 0 (suc (seek_waiting xs)) (λ e _. e) (λ _ l. waiting_at xs (omega arith)) h
-
 waits_coins : (x : Holding) → waits x ≡ true → 1 ≤ x.coins
 waits_coins x e = grind (arith, nat_tests)
 
@@ -41,7 +35,7 @@ module _ (w : World) (O : Order w) (i : ℕ) (lt : i < length w.helpers) where
   tidy = O.helpers i lt
 
   -- a call that changes and sends nothing
-  pub idles : (n : ℕ) → Did n false 0 w (helper_did w i (helper_at w.helpers i) Nothing)
+  pub idles : (n : ℕ) → Did n false 0 w (helper_did w i (helper_at w.helpers i) None)
   idles n =
       subst (λ (hs : List Helper). Did n false 0 w (record { boss = w.boss; helpers = hs; post = w.post }))
       (sym (set-get_or w.helpers i no_helper)) (nothing_did n false w O)
@@ -49,7 +43,7 @@ module _ (w : World) (O : Order w) (i : ℕ) (lt : i < length w.helpers) where
   -- a call that changes the state of a letter, and sends a message of it
   sends : (m : Mail) (x : Holding) (g : Helper) → 1 ≤ m.letter.number → Changed i m.letter.number x (helper_at w.helpers i) g →
       Turn false 0 (view m.letter.number w) (now_has (view m.letter.number w) i x (post_of m.letter.number w.post ++ m ∷ [])) →
-      Did m.letter.number false 0 w (helper_did w i g (Send m))
+      Did m.letter.number false 0 w (helper_did w i g (Some m))
   sends m x g pos C t =
       let n = m.letter.number in
       helper_did_moves w O i n 0 x g (w.post ++ m ∷ []) (post_of n w.post ++ m ∷ []) lt pos C (send_own n w.post m (eq-eqb n n refl))
@@ -136,9 +130,9 @@ module _ (w : World) (O : Order w) (i : ℕ) (lt : i < length w.helpers) where
       n : ℕ
       n = get_or who.letters k 0
 
-      go : k < 64 → Did n false 0 w (helper_did w i (write who k 0 idle) (Send (record { sender = who.me; receiver = record { number = boss_number }; letter = record { number = n }; kind = Back (at who.holdings k).coins })))
+      go : k < 64 → Did n false 0 w (helper_did w i (write who k 0 idle) (Some (record { sender = who.me; receiver = record { number = boss_number }; letter = record { number = n }; kind = Back (at who.holdings k).coins })))
       go l =
-          let wt : waits (at who.holdings k) ≡ true = waiting_at who.holdings (omega (arith, tidy.holdings)) in
+          let wt : waits (at who.holdings k) ≡ true = passes_at_first waits who.holdings idle (omega (arith, tidy.holdings)) in
           let co : 1 ≤ (at who.holdings k).coins = waits_coins (at who.holdings k) wt in
           let pos : 1 ≤ n = positive n (λ z. omega (arith, tidy.free k l z, co)) in
           let e : holding_at (holdings_of n w.helpers) i ≡ at who.holdings k = held_get n w.helpers i lt ∙ held_at i who n tidy pos ∙ ap (λ (j : ℕ). at who.holdings j) (seek_apart who.letters n k tidy.apart (omega (arith, tidy.letters)) refl pos) in

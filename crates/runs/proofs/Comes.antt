@@ -1,5 +1,5 @@
 -- What it is for each letter when a message comes to a helper.
-use Rattle.std.proofs.Common.{◌≡◌, ℕ, suc, ◌<◌, ◌≤◌, Bool, true, false, not, ◌&&◌, eqb, ltb, List, [], ◌∷◌, ◌++◌, length, take, drop, sym, refl, ap, ◌∙◌, subst, arith, ltb-true}
+use Rattle.std.proofs.Common.{◌≡◌, ℕ, suc, ◌<◌, ◌≤◌, Bool, true, false, not, ◌&&◌, eqb, ltb, List, [], ◌∷◌, ◌++◌, length, take, drop, sym, refl, ap, ◌∙◌, subst, arith, ltb-true, None, Ok, Option, Some, Err}
 use Rattle.std.specs.List.{remove}
 use Rattle.std.proofs.lemmas.List.Elements.{All-push, All-get_or}
 use Rattle.std.proofs.lemmas.Bool.{eq-eqb, ne_eqb}
@@ -8,10 +8,8 @@ use Rattle.coins.specs.declared.ids.LetterId.{LetterId}
 use Rattle.coins.specs.declared.mail.Kind.{Kind}
 use Rattle.coins.specs.declared.mail.Kind.TheVariants.{Work, More, Back, NoMore, Ask}
 use Rattle.coins.specs.declared.mail.Mail.{Mail}
-use Rattle.coins.specs.declared.mail.Post.{Post}
-use Rattle.coins.specs.declared.mail.Post.TheVariants.{Nothing, Send}
-use Rattle.coins.specs.declared.mail.Taking.{Taking}
-use Rattle.coins.specs.declared.mail.Taking.TheVariants.{Took, Later, Refused}
+use Rattle.coins.specs.Mails.{Taking}
+use Rattle.coins.specs.declared.mail.Untaken.TheVariants.{Later, Refused}
 use Rattle.helper_coins.specs.declared.helper.Helper.{Helper}
 use Rattle.helper_coins.specs.declared.holding.Holding.{Holding}
 use Rattle.coins.specs.Letters.{place}
@@ -70,14 +68,14 @@ module _ (w : World) (O : Order w) (k : ℕ) (lk : k < length w.post) (lt : (mai
   other m ne = ne_eqb n m (λ q. ne (sym q))
 
   -- it is taken, and nothing is sent
-  takes : (x : Holding) (g : Helper) → Changed i n x who g → Turn false 1 (view n w) (now_has (view n w) i x (before ++ behind)) → Did n false 1 w (helper_did (without w k) i g Nothing)
+  takes : (x : Holding) (g : Helper) → Changed i n x who g → Turn false 1 (view n w) (now_has (view n w) i x (before ++ behind)) → Did n false 1 w (helper_did (without w k) i g None)
   takes x g C t =
       helper_did_moves w O i n 1 x g (remove w.post k) (before ++ behind) lt pos C (gone_own n w.post k)
       (λ m p ne. gone_other m w.post k lk (other m ne)) (all_gone (λ (m : Mail). 1 ≤ m.letter.number) w.post k O.numbered) t
 
   -- it is taken, and an answer of the same letter is sent
   replies : (x : Holding) (g : Helper) (r : Mail) → r.letter.number ≡ n → Changed i n x who g → Turn false 1 (view n w) (now_has (view n w) i x ((before ++ behind) ++ r ∷ [])) →
-      Did n false 1 w (helper_did (without w k) i g (Send r))
+      Did n false 1 w (helper_did (without w k) i g (Some r))
   replies x g r e C t =
       helper_did_moves w O i n 1 x g (remove w.post k ++ r ∷ []) ((before ++ behind) ++ r ∷ []) lt pos C
       (send_own n (remove w.post k) r (eq-eqb _ n e) ∙ ap (λ (ms : List Mail). ms ++ r ∷ []) (gone_own n w.post k))
@@ -86,9 +84,9 @@ module _ (w : World) (O : Order w) (k : ℕ) (lk : k < length w.post) (lt : (mai
 
   -- what follows of a message that is taken
   abbrev pub Follows : Helper → Taking → Type 0
-  Follows g (Took p) = Did n false 1 w (helper_did (without w k) i g p)
-  Follows g Later = Unit {0}
-  Follows g (Refused why) = Unit {0}
+  Follows g (Ok p) = Did n false 1 w (helper_did (without w k) i g p)
+  Follows g (Err Later) = Unit {0}
+  Follows g (Err (Refused why)) = Unit {0}
 
   abbrev Arrives : TookIn → Type 0
   Arrives d = Follows d.helper d.taking
@@ -150,6 +148,6 @@ module _ (w : World) (O : Order w) (k : ℕ) (lk : k < length w.post) (lt : (mai
   by_kind boss (Back c) q = tt
   by_kind boss Ask q = tt
 
-  pub come_did : (boss : ℕ) (g : Helper) (p : Post) → arrive_step (helper_at w.helpers (mail_at w.post k).receiver.number) (mail_at w.post k).letter (mail_at w.post k).kind boss ≡ record { helper = g; taking = Took p } →
+  pub come_did : (boss : ℕ) (g : Helper) (p : Option Mail) → arrive_step (helper_at w.helpers (mail_at w.post k).receiver.number) (mail_at w.post k).letter (mail_at w.post k).kind boss ≡ record { helper = g; taking = Ok p } →
       Did (mail_at w.post k).letter.number false 1 w (helper_did (without w k) (mail_at w.post k).receiver.number g p)
   come_did boss g p e = subst Arrives e (by_kind boss mail.kind refl)

@@ -1,5 +1,5 @@
 -- What the boss's calls, and the messages that come to it, are for each letter.
-use Rattle.std.proofs.Common.{◌≡◌, ℕ, suc, ◌+◌, ◌<◌, ◌≤◌, Bool, true, false, ◌||◌, eqb, ltb, leb, List, [], ◌∷◌, ◌++◌, length, get_or, take, drop, sym, refl, ap, ◌∙◌, subst, arith, ltb-true}
+use Rattle.std.proofs.Common.{◌≡◌, ℕ, suc, ◌+◌, ◌<◌, ◌≤◌, Bool, true, false, ◌||◌, eqb, ltb, leb, List, [], ◌∷◌, ◌++◌, length, get_or, take, drop, sym, refl, ap, ◌∙◌, subst, arith, ltb-true, None, Ok, Option, Some, Err}
 use Rattle.std.specs.List.{remove}
 use Rattle.std.proofs.lemmas.List.Elements.{All-push, All-get_or}
 use Rattle.std.proofs.lemmas.Bool.{eqb-true, eq-eqb, ne_eqb}
@@ -9,10 +9,8 @@ use Rattle.coins.specs.declared.ids.NodeId.{NodeId}
 use Rattle.coins.specs.declared.mail.Kind.{Kind}
 use Rattle.coins.specs.declared.mail.Kind.TheVariants.{Work, More, Back, NoMore, Ask}
 use Rattle.coins.specs.declared.mail.Mail.{Mail}
-use Rattle.coins.specs.declared.mail.Post.{Post}
-use Rattle.coins.specs.declared.mail.Post.TheVariants.{Nothing, Send}
-use Rattle.coins.specs.declared.mail.Taking.{Taking}
-use Rattle.coins.specs.declared.mail.Taking.TheVariants.{Took, Later, Refused}
+use Rattle.coins.specs.Mails.{Taking}
+use Rattle.coins.specs.declared.mail.Untaken.TheVariants.{Later, Refused}
 use Rattle.boss_coins.specs.declared.boss.Boss.{Boss}
 use Rattle.coins.specs.Limits.{grant, limit, boss_number}
 use Rattle.coins.specs.Letters.{seek, place}
@@ -41,7 +39,7 @@ module _ (w : World) (O : Order w) where
   -- a call that leaves an account like this, and sends a message of the letter
   sends : (m : Mail) (give live done : Bool) (given back : ℕ) (c : Boss) → 1 ≤ m.letter.number → Booked m.letter.number live done given back w.boss c →
       Turn give 0 (view m.letter.number w) (record { live = live; done = done; given = given; back = back; holdings = holdings_of m.letter.number w.helpers; post = post_of m.letter.number w.post ++ m ∷ [] }) →
-      Did m.letter.number give 0 w (boss_did w c (Send m))
+      Did m.letter.number give 0 w (boss_did w c (Some m))
   sends m give live done given back c pos B t =
       let n = m.letter.number in
       boss_did_moves w O n 0 given back give live done c (w.post ++ m ∷ []) (post_of n w.post ++ m ∷ []) pos B (send_own n w.post m (eq-eqb n n refl))
@@ -149,7 +147,7 @@ module _ (w : World) (O : Order w) (k : ℕ) (lk : k < length w.post) (to : (mai
   -- it is taken, and nothing is sent
   takes : (given back : ℕ) (c : Boss) → Booked n true false given back w.boss c →
       Turn false 1 (view n w) (record { live = true; done = false; given = given; back = back; holdings = holdings_of n w.helpers; post = before ++ behind }) →
-      Did n false 1 w (boss_did (without w k) c Nothing)
+      Did n false 1 w (boss_did (without w k) c None)
   takes given back c B t =
       boss_did_moves w O n 1 given back false true false c (remove w.post k) (before ++ behind) pos B (gone_own n w.post k)
       (λ m p ne. gone_other m w.post k lk (other m ne)) (all_gone (λ (m : Mail). 1 ≤ m.letter.number) w.post k O.numbered) t
@@ -157,7 +155,7 @@ module _ (w : World) (O : Order w) (k : ℕ) (lk : k < length w.post) (to : (mai
   -- it is taken, and an answer of the same letter is sent
   replies : (live done : Bool) (given back : ℕ) (c : Boss) (r : Mail) → r.letter.number ≡ n → Booked n live done given back w.boss c →
       Turn false 1 (view n w) (record { live = live; done = done; given = given; back = back; holdings = holdings_of n w.helpers; post = (before ++ behind) ++ r ∷ [] }) →
-      Did n false 1 w (boss_did (without w k) c (Send r))
+      Did n false 1 w (boss_did (without w k) c (Some r))
   replies live done given back c r e B t =
       boss_did_moves w O n 1 given back false live done c (remove w.post k ++ r ∷ []) ((before ++ behind) ++ r ∷ []) pos B
       (send_own n (remove w.post k) r (eq-eqb _ n e) ∙ ap (λ (ms : List Mail). ms ++ r ∷ []) (gone_own n w.post k))
@@ -165,9 +163,9 @@ module _ (w : World) (O : Order w) (k : ℕ) (lk : k < length w.post) (to : (mai
       (All-push (λ (m : Mail). 1 ≤ m.letter.number) (remove w.post k) r (all_gone (λ (m : Mail). 1 ≤ m.letter.number) w.post k O.numbered) (omega (arith, e, pos))) t
 
   abbrev Follows : Boss → Taking → Type 0
-  Follows c (Took p) = Did n false 1 w (boss_did (without w k) c p)
-  Follows c Later = Unit {0}
-  Follows c (Refused why) = Unit {0}
+  Follows c (Ok p) = Did n false 1 w (boss_did (without w k) c p)
+  Follows c (Err Later) = Unit {0}
+  Follows c (Err (Refused why)) = Unit {0}
 
   abbrev Arrives : TookIn → Type 0
   Arrives d = Follows d.boss d.taking
@@ -209,7 +207,7 @@ module _ (w : World) (O : Order w) (k : ℕ) (lk : k < length w.post) (to : (mai
       asked : ToBoss (view n w) mail.sender.number mail Ask
       asked = (from, refl, to, q)
 
-      denied : Did n false 1 w (boss_did (without w k) desk (Send (record { sender = record { number = boss_number }; receiver = (mail_at w.post k).sender; letter = (mail_at w.post k).letter; kind = NoMore })))
+      denied : Did n false 1 w (boss_did (without w k) desk (Some (record { sender = record { number = boss_number }; receiver = (mail_at w.post k).sender; letter = (mail_at w.post k).letter; kind = NoMore })))
       denied =
           replies (is_open desk n) (is_done desk n) (given_of desk n) (back_of desk n) desk _ refl (unchanged n desk O.boss)
           (record { move = denies (view n w) mail _ before behind split asked refl refl; giving_is = refl; coming_is = refl })
@@ -221,6 +219,6 @@ module _ (w : World) (O : Order w) (k : ℕ) (lk : k < length w.post) (to : (mai
   by_kind room (More c) q f = tt
   by_kind room NoMore q f = tt
 
-  pub return_did : (room : ℕ) (c : Boss) (p : Post) → receive_step w.boss (mail_at w.post k).sender (mail_at w.post k).letter (mail_at w.post k).kind room ≡ record { boss = c; taking = Took p } →
+  pub return_did : (room : ℕ) (c : Boss) (p : Option Mail) → receive_step w.boss (mail_at w.post k).sender (mail_at w.post k).letter (mail_at w.post k).kind room ≡ record { boss = c; taking = Ok p } →
       Did (mail_at w.post k).letter.number false 1 w (boss_did (without w k) c p)
   return_did room c p e = subst Arrives e (by_kind room mail.kind refl fine)

@@ -1,25 +1,24 @@
 -- The messages from one to another are a queue.
-use Rattle.std.proofs.Common.{◌≡◌, ℕ, zero, suc, ◌<◌, Bool, true, false, cond, List, [], ◌∷◌, ◌++◌, length, take, drop, filter, sym, refl, ap, ◌∙◌, arith}
+use Rattle.std.proofs.Common.{◌≡◌, ℕ, zero, suc, ◌<◌, Bool, true, false, cond, List, [], ◌∷◌, ◌++◌, length, take, drop, sym, refl, ap, ◌∙◌, arith, ◌+◌}
 use Rattle.std.specs.List.{remove}
 use Rattle.std.proofs.lemmas.List.Elements.{filter-append}
+use Rattle.std.proofs.lemmas.List.Sums.{fails_before_first}
 use Rattle.std.proofs.lemmas.Bool.Decides.{nat_tests}
 use Rattle.coins.specs.declared.ids.NodeId.{NodeId}
 use Rattle.coins.specs.declared.mail.Mail.{Mail}
-use Rattle.runs.specs.System.{First, mail_at, on_line, head}
+use Rattle.runs.specs.System.{First, no_mail, mail_at, on_line, head}
 use Rattle.runs.specs.Lines.{queue, LinesAreQueues}
 use Rattle.runs.proofs.Views.{around}
 
 -- before the first of a line there is none of it
 none_before : (ms : List Mail) (s r : NodeId) (k : ℕ) → head ms s r ≡ k → queue s r (take k ms) ≡ []
-unfolding head queue
+unfolding queue
 none_before [] s r zero e = refl
 none_before [] s r (suc k) e = refl
 none_before (m ∷ ms) s r zero e = refl
-none_before (m ∷ ms) s r (suc k) e = go (on_line s r m) refl (λ h. none_before ms s r k h)
-  where
-    go : (b : Bool) → on_line s r m ≡ b → (head ms s r ≡ k → filter (on_line s r) (take k ms) ≡ []) → cond (on_line s r m) (m ∷ filter (on_line s r) (take k ms)) (filter (on_line s r) (take k ms)) ≡ []
-    go true f rest = absurd (let z : 0 ≡ suc k = rw f at e in omega arith)
-    go false f rest = let z : suc (head ms s r) ≡ suc k = rw f at e in rw f (rest (omega arith))
+none_before (m ∷ ms) s r (suc k) e =
+    let f : on_line s r m ≡ false = fails_before_first (on_line s r) (m ∷ ms) 0 no_mail (omega arith) in
+    let z : 1 + head ms s r ≡ suc k = rw f at e in rw f (none_before ms s r k (omega arith))
 
 -- a node is its number
 pub same_node : (x y : NodeId) → x.number ≡ y.number → x ≡ y

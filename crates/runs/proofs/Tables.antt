@@ -1,6 +1,8 @@
 -- Tables of 64 letters: where a letter stands, and what a write at one place leaves of the others.
-use Rattle.std.proofs.Common.{◌≡◌, ℕ, zero, suc, ◌<◌, ◌≤◌, Bool, true, false, cond, ◌&&◌, eqb, ◌⊎◌, List, [], ◌∷◌, length, get_or, set, sym, refl, ap, ◌∙◌, inl, inr, arith}
+use Rattle.std.proofs.Common.{◌≡◌, ℕ, zero, suc, ◌<◌, ◌≤◌, Bool, true, false, cond, ◌&&◌, eqb, ◌⊎◌, List, length, get_or, set, sym, refl, ap, ◌∙◌, inl, inr, arith}
 use Rattle.std.proofs.lemmas.List.{length-set, get_or-set_same, get_or-set_other}
+use Rattle.std.proofs.lemmas.List.Sums.{prefix_len-le-length, passes_at_first, fails_before_first}
+use Rattle.std.proofs.lemmas.List.Folds.{position_or_len-set}
 use Rattle.std.proofs.lemmas.Bool.{eqb-true, eqb-false, ne_eqb}
 use Rattle.std.proofs.lemmas.Bool.Decides.{eqb_tells, leb_tells}
 use Rattle.coins.specs.Letters.{seek, place}
@@ -22,20 +24,13 @@ pub positive : (x : ℕ) → (x ≡ 0 → ⊥) → 1 ≤ x
 positive x f = omega arith
 
 pub seek_le : (xs : List ℕ) (n : ℕ) → seek xs n ≤ length xs
-unfolding seek
-seek_le [] n = omega arith
-seek_le (x ∷ xs) n = let h = seek_le xs n in by_test (λ k. k ≤ suc (length xs)) (eqb x n) 0 (suc (seek xs n)) (λ _. omega arith) (λ _. omega arith)
+seek_le xs n = prefix_len-le-length _ xs
 
 pub seek_at : (xs : List ℕ) (n : ℕ) → seek xs n < length xs → get_or xs (seek xs n) 0 ≡ n
-unfolding seek
-seek_at [] n h = absurd (omega arith)
-seek_at (x ∷ xs) n h = by_test (λ k. k < suc (length xs) → get_or (x ∷ xs) k 0 ≡ n) (eqb x n) 0 (suc (seek xs n)) (λ e _. eqb-true x n e) (λ _ l. seek_at xs n (omega arith)) h
+seek_at xs n h = eqb-true _ _ (passes_at_first (λ x. eqb x n) xs 0 h)
 
 pub seek_before : (xs : List ℕ) (n k : ℕ) → k < seek xs n → get_or xs k 0 ≡ n → ⊥
-unfolding seek
-seek_before [] n k h e = omega arith
-seek_before (x ∷ xs) n zero h e = by_test (λ s. 0 < s → ⊥) (eqb x n) 0 (suc (seek xs n)) (λ _ l. omega arith) (λ f _. eqb-false x n f e) h
-seek_before (x ∷ xs) n (suc k) h e = seek_before xs n k (by_test (λ s. suc k < s → k < seek xs n) (eqb x n) 0 (suc (seek xs n)) (λ _ l. absurd (omega arith)) (λ _ l. omega arith) h) e
+seek_before xs n k h e = eqb-false _ _ (fails_before_first (λ x. eqb x n) xs k 0 h) e
 
 -- a number that stands nowhere
 pub seek_out : (xs : List ℕ) (n : ℕ) → ((k : ℕ) → k < length xs → get_or xs k 0 ≡ n → ⊥) → seek xs n ≡ length xs
@@ -46,10 +41,7 @@ seek_out xs n no_place =
     ]
 
 pub seek_set_other : (xs : List ℕ) (i y n : ℕ) → (get_or xs i 0 ≡ n → ⊥) → (y ≡ n → ⊥) → seek (set xs i y) n ≡ seek xs n
-unfolding seek
-seek_set_other [] i y n f g = refl
-seek_set_other (x ∷ xs) zero y n f g = rw (ne_eqb x n f, ne_eqb y n g)
-seek_set_other (x ∷ xs) (suc i) y n f g = rw (seek_set_other xs i y n f g)
+seek_set_other xs i y n f g = position_or_len-set (λ x. eqb x n) xs i y 0 (ne_eqb y n g ∙ sym (ne_eqb _ n f))
 
 pub seek_set_new : (xs : List ℕ) (i n : ℕ) → i < length xs → seek xs n ≡ length xs → seek (set xs i n) n ≡ i
 seek_set_new xs i n lt out =

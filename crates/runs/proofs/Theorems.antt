@@ -1,5 +1,5 @@
 -- The promises.
-use Rattle.std.proofs.Common.{◌≡◌, ℕ, zero, suc, ◌+◌, ◌<◌, ◌≤◌, Bool, true, false, cond, ◌&&◌, eqb, ltb, ◌⊎◌, List, [], ◌∷◌, length, get_or, sym, refl, ap, ◌∙◌, subst, inl, inr, ⊎_elim, arith, ltb-true}
+use Rattle.std.proofs.Common.{◌≡◌, ℕ, zero, suc, ◌+◌, ◌<◌, ◌≤◌, Bool, true, false, cond, ◌&&◌, eqb, ltb, ◌⊎◌, List, [], ◌∷◌, length, get_or, sym, refl, ap, ◌∙◌, subst, inl, inr, ⊎_elim, arith, ltb-true, Ok, Err}
 use mathlib.Core.Logic.{∥∥₁_elim, ∥∥₁_map}
 use mathlib.Core.HLevel.{⊥_prop, Unit-prop}
 use mathlib.Core.Bool.{Bool-set}
@@ -19,8 +19,8 @@ use Rattle.boss_coins.specs.Bosses.{is_open, say_step}
 use Rattle.boss_coins.specs.Bosses.{Called as BossCalled}
 use Rattle.runs.specs.System.{World, helper_at, mail_at, no_mail, Step, gives, says, shares, rests, flushes, comes, returns, Reach, then, Runs, still, onward}
 use Rattle.runs.specs.Letter.{View, view, is_done, is_of, is_work, post_of, holding_at, Quiet, to_come}
-use Rattle.coins.specs.declared.mail.Taking.{Taking}
-use Rattle.coins.specs.declared.mail.Taking.TheVariants.{Took, Later, Refused}
+use Rattle.coins.specs.Mails.{Taking}
+use Rattle.coins.specs.declared.mail.Untaken.TheVariants.{Later, Refused}
 use Rattle.runs.specs.Promise.{Laden, Taken, Welcome, Promised, Promise, DoneStays, StepsAreMoves, about, LettersApart, OnlyWorkWakes, is_give, arrivals, Ungiven, QuietGoesOn, QuietIsShort, QuietIsSaid}
 use Rattle.runs.specs.Promise as promise
 use Rattle.runs.proofs.Tables.{by_test, and_true, and_false}
@@ -69,14 +69,14 @@ laden_prop NoMore = Unit-prop
 laden_prop Ask = Unit-prop
 
 taken_prop : (t : Taking) → IsProp (Taken t)
-taken_prop (Took p) = Unit-prop
-taken_prop Later = ⊥_prop
-taken_prop (Refused why) = ⊥_prop
+taken_prop (Ok p) = Unit-prop
+taken_prop (Err Later) = ⊥_prop
+taken_prop (Err (Refused why)) = ⊥_prop
 
 welcome_prop : (room : ℕ) (t : Taking) → IsProp (Welcome room t)
-welcome_prop room (Took p) = Unit-prop
-welcome_prop room Later = ℕ_set _ _
-welcome_prop room (Refused why) = ⊥_prop
+welcome_prop room (Ok p) = Unit-prop
+welcome_prop room (Err Later) = ℕ_set _ _
+welcome_prop room (Err (Refused why)) = ⊥_prop
 
 pub quiet_of : (v : View) → ∥ Quiet v ∥₁ → Quiet v
 quiet_of v h =

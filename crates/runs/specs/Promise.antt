@@ -1,11 +1,11 @@
 -- What is promised, of every world that is reached and of every letter.
-use Rattle.std.specs.Prelude.{◌≡◌, ℕ, ◌+◌, ◌*◌, ◌<◌, ◌≤◌, Bool, true, false, cond, ◌⊎◌, [], length, ◌==◌, ◌≢◌, slice_index}
+use Rattle.std.specs.Prelude.{◌≡◌, ℕ, ◌+◌, ◌*◌, ◌<◌, ◌≤◌, Bool, true, false, cond, ◌⊎◌, [], length, Ok, Err, ◌==◌, ◌≢◌, slice_index}
 use Rattle.coins.specs.declared.ids.LetterId.{LetterId}
 use Rattle.coins.specs.declared.answer.Answer.TheVariants.{Done}
 use Rattle.coins.specs.declared.mail.Kind.{Kind}
 use Rattle.coins.specs.declared.mail.Kind.TheVariants.{Work, More, Back, NoMore, Ask}
-use Rattle.coins.specs.declared.mail.Taking.{Taking}
-use Rattle.coins.specs.declared.mail.Taking.TheVariants.{Took, Later, Refused}
+use Rattle.coins.specs.Mails.{Taking}
+use Rattle.coins.specs.declared.mail.Untaken.TheVariants.{Later, Refused}
 use Rattle.coins.specs.Limits.{boss_number}
 use Rattle.helper_coins.specs.Holdings.{waits}
 use Rattle.helper_coins.specs.Helpers.{seek_waiting, arrive_step}
@@ -24,15 +24,15 @@ Laden Ask = Unit {0}
 
 -- a message is taken
 abbrev pub Taken : Taking → Type 0
-Taken (Took p) = Unit {0}
-Taken Later = ⊥
-Taken (Refused why) = ⊥
+Taken (Ok p) = Unit {0}
+Taken (Err Later) = ⊥
+Taken (Err (Refused why)) = ⊥
 
 -- a message is taken; or, when there is no place for its answer, later; it is never turned away
 abbrev pub Welcome : ℕ → Taking → Type 0
-Welcome room (Took p) = Unit {0}
-Welcome room Later = room ≡ 0
-Welcome room (Refused why) = ⊥
+Welcome room (Ok p) = Unit {0}
+Welcome room (Err Later) = room ≡ 0
+Welcome room (Err (Refused why)) = ⊥
 
 -- What holds of one letter. quiet: when the boss has said done, nobody is at work on it and no work of it is under
 -- way. kept: no coin is made or lost. paid: who is at work has a coin.

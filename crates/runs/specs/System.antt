@@ -1,13 +1,10 @@
 -- The boss, the helpers and the messages between them, over lines that lose nothing; and every step of them all.
-use Rattle.std.specs.Prelude.{◌≡◌, ℕ, zero, suc, ◌<◌, ◌≤◌, Bool, cond, ◌&&◌, List, [], ◌∷◌, ◌++◌, length, ◌==◌, slice_index_or, slice_set}
-use Rattle.std.specs.List.{remove}
+use Rattle.std.specs.Prelude.{◌≡◌, ℕ, zero, suc, ◌<◌, ◌≤◌, Bool, ◌&&◌, List, [], ◌∷◌, ◌++◌, length, Some, None, Ok, Option, ◌==◌, slice_index_or, slice_set}
+use Rattle.std.specs.List.{remove, position_or_len}
 use Rattle.coins.specs.declared.ids.LetterId.{LetterId}
 use Rattle.coins.specs.declared.ids.NodeId.{NodeId}
 use Rattle.coins.specs.declared.mail.Kind.TheVariants.{Work}
 use Rattle.coins.specs.declared.mail.Mail.{Mail}
-use Rattle.coins.specs.declared.mail.Post.{Post}
-use Rattle.coins.specs.declared.mail.Post.TheVariants.{Nothing, Send}
-use Rattle.coins.specs.declared.mail.Taking.TheVariants.{Took}
 use Rattle.helper_coins.specs.declared.helper.Helper.{Helper}
 use Rattle.boss_coins.specs.declared.boss.Boss.{Boss}
 use Rattle.coins.specs.Limits.{boss_number}
@@ -45,23 +42,23 @@ mail_at ms k = slice_index_or ms k no_mail
 abbrev pub on_line : NodeId → NodeId → Mail → Bool
 on_line s r m = m.sender.number == s.number && m.receiver.number == r.number
 
-unfoldable pub head : List Mail → NodeId → NodeId → ℕ
-head [] s r = 0
-head (m ∷ ms) s r = cond (on_line s r m) 0 (suc (head ms s r))
+-- the first message from one to another, or how many there are where there is none
+abbrev pub head : List Mail → NodeId → NodeId → ℕ
+head ms s r = position_or_len (on_line s r) ms
 
 -- the k-th message is the first of its line
 pub record First (ms : List Mail) (k : ℕ) : Type 0 where
   pub inside : k < length ms
   pub foremost : head ms (mail_at ms k).sender (mail_at ms k).receiver ≡ k
 
-abbrev pub sent : Post → List Mail → List Mail
-sent Nothing ms = ms
-sent (Send m) ms = ms ++ m ∷ []
+abbrev pub sent : Option Mail → List Mail → List Mail
+sent None ms = ms
+sent (Some m) ms = ms ++ m ∷ []
 
-abbrev pub boss_did : World → Boss → Post → World
+abbrev pub boss_did : World → Boss → Option Mail → World
 boss_did w b p = record { boss = b; helpers = w.helpers; post = sent p w.post }
 
-abbrev pub helper_did : World → ℕ → Helper → Post → World
+abbrev pub helper_did : World → ℕ → Helper → Option Mail → World
 helper_did w i h p = record { boss = w.boss; helpers = slice_set w.helpers i h; post = sent p w.post }
 
 abbrev pub without : World → ℕ → World
@@ -81,12 +78,12 @@ pub data Step : World → World → Type 0 where
   flushes : (w : World) (i : ℕ) (boss : ℕ) → i < length w.helpers →
       Step w (helper_did w i (flush_step (helper_at w.helpers i) boss).helper (flush_step (helper_at w.helpers i) boss).post)
   -- the first message of a line comes to a helper, who takes it
-  comes : (w : World) (k i boss : ℕ) (h : Helper) (p : Post) → First w.post k → (mail_at w.post k).receiver.number ≡ i → i < length w.helpers →
-      arrive_step (helper_at w.helpers i) (mail_at w.post k).letter (mail_at w.post k).kind boss ≡ record { helper = h; taking = Took p } →
+  comes : (w : World) (k i boss : ℕ) (h : Helper) (p : Option Mail) → First w.post k → (mail_at w.post k).receiver.number ≡ i → i < length w.helpers →
+      arrive_step (helper_at w.helpers i) (mail_at w.post k).letter (mail_at w.post k).kind boss ≡ record { helper = h; taking = Ok p } →
       Step w (helper_did (without w k) i h p)
   -- the first message of a line comes to the boss, who takes it
-  returns : (w : World) (k room : ℕ) (b : Boss) (p : Post) → First w.post k → (mail_at w.post k).receiver.number ≡ boss_number →
-      receive_step w.boss (mail_at w.post k).sender (mail_at w.post k).letter (mail_at w.post k).kind room ≡ record { boss = b; taking = Took p } →
+  returns : (w : World) (k room : ℕ) (b : Boss) (p : Option Mail) → First w.post k → (mail_at w.post k).receiver.number ≡ boss_number →
+      receive_step w.boss (mail_at w.post k).sender (mail_at w.post k).letter (mail_at w.post k).kind room ≡ record { boss = b; taking = Ok p } →
       Step w (boss_did (without w k) b p)
 
 -- the worlds that are reached from the start, with up to 256 helpers

@@ -7,64 +7,46 @@ ghost use Rattle.runs.specs.Lines.{LinesAreQueues};
 // Of every letter in every world that is reached: when the boss has said done, nobody is at work and no work is
 // under way; no coin is made or lost; who is at work has a coin, and so has each message of work or coins; and no
 // message is turned away.
-pub fn promises_hold() -> u8
+pub fn promises_hold()
     ensures { Promise }
-{
-    0
-}
+{}
 
 // What the boss has said stays said, and its number never opens again.
-pub fn done_stays() -> u8
+pub fn done_stays()
     ensures { DoneStays }
-{
-    0
-}
+{}
 
 // Each step is for each letter one of the rules, or nothing.
-pub fn steps_are_moves() -> u8
+pub fn steps_are_moves()
     ensures { StepsAreMoves }
-{
-    0
-}
+{}
 
 // A step about one letter leaves every other as it was.
-pub fn letters_stay_apart() -> u8
+pub fn letters_stay_apart()
     ensures { LettersApart }
-{
-    0
-}
+{}
 
 // Nobody comes to be at work but by work.
-pub fn only_work_wakes() -> u8
+pub fn only_work_wakes()
     ensures { OnlyWorkWakes }
-{
-    0
-}
+{}
 
 // What is quiet stays quiet without a new give, and each message that comes leaves less to come.
-pub fn quiet_goes_on() -> u8
+pub fn quiet_goes_on()
     ensures { QuietGoesOn }
-{
-    0
-}
+{}
 
 // How many messages can still come.
-pub fn quiet_is_short() -> u8
+pub fn quiet_is_short()
     ensures { QuietIsShort }
-{
-    0
-}
+{}
 
 // When it is quiet and nothing is left to come, all coins are back, and say answers done.
-pub fn quiet_is_said() -> u8
+pub fn quiet_is_said()
     ensures { QuietIsSaid }
-{
-    0
-}
+{}
 
 // The messages from one to another come in the order in which they were sent.
-pub fn lines_are_queues() -> u8
+pub fn lines_are_queues()
     ensures { LinesAreQueues }
-{
-    0
-}
+{}
