@@ -1,8 +1,7 @@
 -- Each message that comes, and each flush, leaves less to come.
-use Rattle.std.proofs.Common.{◌≡◌, ℕ, suc, ◌+◌, ◌<◌, ◌≤◌, true, cond, not, ◌&&◌, ◌||◌, eqb, ltb, leb, List, [], length, get_or, take, drop, set, refl, ap, arith, ltb-true}
+use Rattle.std.proofs.Common.{◌≡◌, ℕ, suc, ◌+◌, ◌<◌, ◌≤◌, true, cond, not, ◌&&◌, ◌||◌, eqb, ltb, leb, List, [], length, get_or, take, drop, set, None, refl, ap, arith, ltb-true, Ok, Option, Err, Some}
 use Rattle.std.specs.List.{remove}
 use Rattle.std.proofs.lemmas.List.{append-nil}
-use Rattle.std.proofs.lemmas.List.Sums.{sum_by-set}
 use Rattle.std.proofs.lemmas.Bool.{eqb-true}
 use Rattle.std.proofs.lemmas.Bool.Decides.{nat_tests}
 use Rattle.coins.specs.declared.ids.LetterId.{LetterId}
@@ -10,10 +9,8 @@ use Rattle.coins.specs.declared.ids.NodeId.{NodeId}
 use Rattle.coins.specs.declared.mail.Kind.{Kind}
 use Rattle.coins.specs.declared.mail.Kind.TheVariants.{Work as Works, More, Back, NoMore, Ask}
 use Rattle.coins.specs.declared.mail.Mail.{Mail}
-use Rattle.coins.specs.declared.mail.Post.{Post}
-use Rattle.coins.specs.declared.mail.Post.TheVariants.{Nothing, Send}
-use Rattle.coins.specs.declared.mail.Taking.{Taking}
-use Rattle.coins.specs.declared.mail.Taking.TheVariants.{Took, Later, Refused as Turned}
+use Rattle.coins.specs.Mails.{Taking}
+use Rattle.coins.specs.declared.mail.Untaken.TheVariants.{Later, Refused as Turned}
 use Rattle.helper_coins.specs.declared.helper.Helper.{Helper}
 use Rattle.helper_coins.specs.declared.holding.Holding.{Holding}
 use Rattle.boss_coins.specs.declared.boss.Boss.{Boss}
@@ -30,17 +27,17 @@ use Rattle.runs.proofs.Tables.{by_test}
 use Rattle.runs.proofs.Counts.{mailed_split, delayed_set}
 use Rattle.runs.proofs.Holders.{Tidy}
 use Rattle.runs.proofs.Views.{around}
-use Rattle.runs.proofs.Calls.{waiting_at}
+use Rattle.std.proofs.lemmas.List.Sums.{sum_by-set, passes_at_first}
 use Rattle.stage.specs.Scenes.{load}
 
 -- what a step sends weighs so much
-abbrev pub weighs : Post → ℕ
-weighs Nothing = 0
-weighs (Send m) = weigh m.kind
+abbrev pub weighs : Option Mail → ℕ
+weighs None = 0
+weighs (Some m) = weigh m.kind
 
-pub mailed_sent : (p : Post) (ms : List Mail) → mailed (sent p ms) ≡ mailed ms + weighs p
-mailed_sent Nothing ms = omega arith
-mailed_sent (Send m) ms = omega (arith, mailed_split m ms [], ap mailed (append-nil ms))
+pub mailed_sent : (p : Option Mail) (ms : List Mail) → mailed (sent p ms) ≡ mailed ms + weighs p
+mailed_sent None ms = omega arith
+mailed_sent (Some m) ms = omega (arith, mailed_split m ms [], ap mailed (append-nil ms))
 
 pub mailed_removed : (ms : List Mail) (k : ℕ) → k < length ms → mailed (remove ms k) + weigh (mail_at ms k).kind ≡ mailed ms
 mailed_removed ms k l = omega (arith, ap mailed (around ms k l), mailed_split (mail_at ms k) (take k ms) (drop (suc k) ms))
@@ -50,9 +47,9 @@ delay_le x = by_test (λ (k : ℕ). k ≤ 2) (waits x) 2 0 (λ _. omega arith) (
 
 -- a message of this weight that a helper takes leaves less
 abbrev pub Lighter : Helper → ℕ → Helper → Taking → Type 0
-Lighter h was g (Took p) = delayed g.holdings + weighs p + 1 ≤ delayed h.holdings + was
-Lighter h was g Later = Unit {0}
-Lighter h was g (Turned why) = Unit {0}
+Lighter h was g (Ok p) = delayed g.holdings + weighs p + 1 ≤ delayed h.holdings + was
+Lighter h was g (Err Later) = Unit {0}
+Lighter h was g (Err (Turned why)) = Unit {0}
 
 module _ (i : ℕ) (h : Helper) (T : Tidy i h) where
   inside : (k : ℕ) → k < 64 → k < length h.holdings
@@ -109,7 +106,7 @@ module _ (i : ℕ) (h : Helper) (T : Tidy i h) where
   pub flush_lighter : (boss : ℕ) → 1 ≤ boss → seek_waiting h.holdings < 64 → delayed (flush_step h boss).helper.holdings + weighs (flush_step h boss).post + 1 ≤ delayed h.holdings
   flush_lighter boss some l =
       by_test (λ (d : Flushed). delayed d.helper.holdings + weighs d.post + 1 ≤ delayed h.holdings) (ltb k 64 && not (eqb boss 0)) _ _
-      (λ _. omega (arith, delayed_set h.holdings k idle (inside k l), waits_two (at h.holdings k) (waiting_at h.holdings (inside k l))))
+      (λ _. omega (arith, delayed_set h.holdings k idle (inside k l), waits_two (at h.holdings k) (passes_at_first waits h.holdings idle (inside k l))))
       (λ f. absurd (let z : (ltb k 64 && not (eqb boss 0)) ≡ true = free k boss l some in let y : ◌≡◌ {A = ℕ} 0 1 = cc in omega arith))
     where
       k : ℕ
@@ -123,9 +120,9 @@ module _ (i : ℕ) (h : Helper) (T : Tidy i h) where
 
 -- a message that the boss takes leaves less
 abbrev pub Drops : ℕ → Taking → Type 0
-Drops was (Took p) = weighs p + 1 ≤ was
-Drops was Later = ⊥
-Drops was (Turned why) = Unit {0}
+Drops was (Ok p) = weighs p + 1 ≤ was
+Drops was (Err Later) = ⊥
+Drops was (Err (Turned why)) = Unit {0}
 
 pub receive_lighter : (b : Boss) (sender : NodeId) (letter : LetterId) (kind : Kind) (places : ℕ) → (kind ≡ Ask → 1 ≤ places) → Drops (weigh kind) (receive_step b sender letter kind places).taking
 receive_lighter b sender letter (Works c) places f = tt

@@ -1,73 +1,38 @@
--- Searches and counts along a list, one place on.
-use Rattle.std.proofs.Common.{◌≡◌, ℕ, suc, ◌+◌, ◌-◌, ◌<◌, ◌≤◌, true, false, ltb, List, [], ◌∷◌, ◌++◌, length, get_or, take, drop, sym, refl, ap, ◌∙◌, add-one, arith}
-use Rattle.std.proofs.lemmas.List.{at_drop_more, at_drop_all, take_all, get_or-map, get_or_read, length-map}
-use Rattle.std.proofs.lemmas.List.Sums.{count_by_more_yes, count_by_more_no}
+-- What is read along the messages and the helpers.
+use Rattle.std.proofs.Common.{◌≤◌, Some, None, ltb, ltb-true, ltb-false, arith, ◌≡◌, ℕ, ◌+◌, ◌<◌, Bool, true, false, cond, not, List, [], ◌∷◌, ◌++◌, length, get_or, sym, refl, ap, ◌∙◌, add-one}
+use Rattle.std.proofs.lemmas.List.{get_or-map, get_or_read, length-map}
+use Rattle.std.proofs.lemmas.List.Recursion.{is_position_or_len}
+use Rattle.std.specs.List.{position, position_or_len}
+use Rattle.coins.proofs.Tests.{by_test}
 use Rattle.coins.specs.declared.ids.NodeId.{NodeId}
 use Rattle.helper_coins.specs.declared.helper.Helper.{Helper}
-use Rattle.helper_coins.specs.Helpers.{seek_waiting, new_helper}
+use Rattle.helper_coins.specs.Helpers.{new_helper}
 use Rattle.runs.specs.System.{crew, no_helper, head, on_line, no_mail, mail_at, helper_at}
-use Rattle.stage.specs.declared.parcel.Parcel.{Parcel}
-use Rattle.stage.specs.Scenes.{mails, room, seek_helper, seek_holder}
+use Rattle.coins.specs.declared.parcel.Parcel.{Parcel}
+use Rattle.coins.specs.Works.{no_work}
+use Rattle.stage.specs.Scenes.{mails}
 
-abbrev pub no_parcel : Parcel
-no_parcel = record { mail = no_mail; work = record { len = 0; bytes = [] } }
+-- the first message on a line, among messages and among parcels
+pub head_mails : (s r : NodeId) (ps : List Parcel) → head (mails ps) s r ≡ position_or_len (λ p. on_line s r p.mail) ps
+unfolding mails
+head_mails s r ps = is_position_or_len (λ qs. head (mails qs) s r) (λ p. on_line s r p.mail) refl (λ p qs. turned (on_line s r p.mail) _) ps
+  where
+    turned : (b : Bool) (n : ℕ) → cond (not b) (1 + n) 0 ≡ cond b 0 (1 + n)
+    turned true n = refl
+    turned false n = refl
 
-abbrev pub parcel_at : List Parcel → ℕ → Parcel
-parcel_at ps k = get_or ps k no_parcel
+-- what is found stands where the search ends, and where nothing is found it ends behind all
+pub found_at : {X : Type 0} (p : X → Bool) (xs : List X) (k : ℕ) → position p xs ≡ Some k → (k ≡ position_or_len p xs) × (k < length xs)
+found_at p xs k e = by_test (λ o. o ≡ Some k → (k ≡ n) × (k < length xs)) (ltb n (length xs)) (Some n) None (λ t q. let z : k ≡ n = cc in (z, omega (arith, ltb-true _ _ t))) (λ _ q. let z : ◌≡◌ {A = ℕ} 0 1 = cc in absurd (omega arith)) e
+  where
+    n : ℕ
+    n = position_or_len p xs
 
-module _ (s r : NodeId) (ps : List Parcel) (k : ℕ) where
-  pub head_here : k < length ps → on_line s r (parcel_at ps k).mail ≡ true → head (mails (drop k ps)) s r ≡ 0
-  unfolding mails head
-  head_here l e = at_drop_more (λ (qs : List Parcel). head (mails qs) s r) ps k no_parcel l ∙ rw e
-
-  pub head_more : k < length ps → on_line s r (parcel_at ps k).mail ≡ false → head (mails (drop k ps)) s r ≡ suc (head (mails (drop (k + 1) ps)) s r)
-  unfolding mails head
-  head_more l e = at_drop_more (λ (qs : List Parcel). head (mails qs) s r) ps k no_parcel l ∙ rw e
-
-  pub head_none : length ps ≤ k → head (mails (drop k ps)) s r ≡ 0
-  unfolding mails head
-  head_none l = at_drop_all (λ (qs : List Parcel). head (mails qs) s r) ps k l
-
-  pub room_more : k < length ps → on_line s r (parcel_at ps k).mail ≡ true → room (take (k + 1) ps) s r ≡ room (take k ps) s r - 1
-  unfolding room
-  room_more l e = omega (arith, count_by_more_yes (λ (p : Parcel). on_line s r p.mail) ps k no_parcel l e)
-
-  pub room_same : k < length ps → on_line s r (parcel_at ps k).mail ≡ false → room (take (k + 1) ps) s r ≡ room (take k ps) s r
-  unfolding room
-  room_same l e = omega (arith, count_by_more_no (λ (p : Parcel). on_line s r p.mail) ps k no_parcel l e)
-
-  pub room_all : length ps ≤ k → room (take k ps) s r ≡ room ps s r
-  room_all l = ap (λ (qs : List Parcel). room qs s r) (take_all k ps l)
-
-pub room_none : (s r : NodeId) (ps : List Parcel) → room (take 0 ps) s r ≡ 1024
-unfolding room
-room_none s r ps = refl
-
-module _ (n : ℕ) (ps : List Parcel) (k : ℕ) where
-  pub helper_here : k < length ps → ltb (parcel_at ps k).mail.receiver.number n ≡ true → seek_helper (drop k ps) n ≡ 0
-  unfolding seek_helper
-  helper_here l e = at_drop_more (λ (qs : List Parcel). seek_helper qs n) ps k no_parcel l ∙ rw e
-
-  pub helper_more : k < length ps → ltb (parcel_at ps k).mail.receiver.number n ≡ false → seek_helper (drop k ps) n ≡ suc (seek_helper (drop (k + 1) ps) n)
-  unfolding seek_helper
-  helper_more l e = at_drop_more (λ (qs : List Parcel). seek_helper qs n) ps k no_parcel l ∙ rw e
-
-  pub helper_none : length ps ≤ k → seek_helper (drop k ps) n ≡ 0
-  unfolding seek_helper
-  helper_none l = at_drop_all (λ (qs : List Parcel). seek_helper qs n) ps k l
-
-module _ (hs : List Helper) (i : ℕ) where
-  pub holder_here : i < length hs → ltb (seek_waiting (helper_at hs i).holdings) 64 ≡ true → seek_holder (drop i hs) ≡ 0
-  unfolding seek_holder
-  holder_here l e = at_drop_more (λ (gs : List Helper). seek_holder gs) hs i no_helper l ∙ rw e
-
-  pub holder_more : i < length hs → ltb (seek_waiting (helper_at hs i).holdings) 64 ≡ false → seek_holder (drop i hs) ≡ suc (seek_holder (drop (i + 1) hs))
-  unfolding seek_holder
-  holder_more l e = at_drop_more (λ (gs : List Helper). seek_holder gs) hs i no_helper l ∙ rw e
-
-  pub holder_none : length hs ≤ i → seek_holder (drop i hs) ≡ 0
-  unfolding seek_holder
-  holder_none l = at_drop_all (λ (gs : List Helper). seek_holder gs) hs i l
+pub found_none : {X : Type 0} (p : X → Bool) (xs : List X) → position p xs ≡ None → length xs ≤ position_or_len p xs
+found_none p xs e = by_test (λ o. o ≡ None → length xs ≤ n) (ltb n (length xs)) (Some n) None (λ _ q. let z : ◌≡◌ {A = ℕ} 0 1 = cc in absurd (omega arith)) (λ f _. ltb-false _ _ f) e
+  where
+    n : ℕ
+    n = position_or_len p xs
 
 pub crew_more : (i : ℕ) → crew (i + 1) ≡ crew i ++ new_helper (record { number = i }) ∷ []
 unfolding crew
@@ -76,6 +41,13 @@ crew_more i = rw (add-one i)
 pub mails_length : (ps : List Parcel) → length (mails ps) ≡ length ps
 unfolding mails
 mails_length ps = length-map ps (λ (p : Parcel). p.mail)
+
+abbrev pub no_parcel : Parcel
+no_parcel = record { mail = no_mail; work = no_work }
+
+pub mail_of : (ps : List Parcel) (k : ℕ) → k < length ps → mail_at (mails ps) k ≡ (get_or ps k no_parcel).mail
+unfolding mails
+mail_of ps k l = get_or-map (λ (q : Parcel). q.mail) ps k no_parcel no_mail l
 
 -- what is read of a parcel, and of a helper
 pub mail_read : (ps : List Parcel) (k : ℕ) (p : Parcel) → k < length ps → p ≡ get_or ps k p → mail_at (mails ps) k ≡ p.mail

@@ -1,9 +1,10 @@
 -- What is played is a step of the system, or nothing; and only say answers done.
-use Rattle.std.proofs.Common.{◌≡◌, ℕ, suc, ◌+◌, ◌<◌, ◌≤◌, Bool, true, false, cond, ◌||◌, eqb, ltb, leb, ◌⊎◌, List, [], ◌∷◌, length, get_or, take, drop, set, Some, MatchBool, sym, refl, ap, ◌∙◌, subst, inl, inr, ⊎_elim, arith, ltb-false, ltb-true}
+use Rattle.std.proofs.Common.{◌≡◌, ℕ, suc, ◌+◌, ◌<◌, ◌≤◌, Bool, true, false, cond, ◌||◌, eqb, ltb, leb, ◌⊎◌, List, length, get_or, take, drop, set, Some, sym, refl, ap, ◌∙◌, subst, inl, inr, ⊎_elim, arith, ltb-false, ltb-true, None, Ok, Option, Result, Err}
 use mathlib.Core.Logic.{∥∥₁_elim, ∥∥₁_map}
 use mathlib.Core.Bool.{Bool-set}
 use Rattle.std.specs.List.{remove}
 use Rattle.std.proofs.lemmas.List.{map_push, map-append, take-map, drop-map}
+use Rattle.std.proofs.lemmas.List.Sums.{passes_at_first}
 use Rattle.std.proofs.lemmas.Bool.Decides.{eqb_tells}
 use Rattle.std.proofs.lemmas.Bool.{eqb-true}
 use Rattle.coins.specs.declared.ids.LetterId.{LetterId}
@@ -14,10 +15,8 @@ use Rattle.coins.specs.declared.answer.Refusal.{Refusal}
 use Rattle.coins.specs.declared.mail.Kind.{Kind}
 use Rattle.coins.specs.declared.mail.Kind.TheVariants.{Work as Works, More, Back, NoMore, Ask}
 use Rattle.coins.specs.declared.mail.Mail.{Mail}
-use Rattle.coins.specs.declared.mail.Post.{Post}
-use Rattle.coins.specs.declared.mail.Post.TheVariants.{Nothing, Send}
-use Rattle.coins.specs.declared.mail.Taking.{Taking}
-use Rattle.coins.specs.declared.mail.Taking.TheVariants.{Took, Later, Refused as Turned}
+use Rattle.coins.specs.Mails.{Taking}
+use Rattle.coins.specs.declared.mail.Untaken.TheVariants.{Later, Refused as Turned}
 use Rattle.helper_coins.specs.declared.helper.Helper.{Helper}
 use Rattle.boss_coins.specs.declared.boss.Boss.{Boss}
 use Rattle.coins.specs.Limits.{grant, limit, boss_number}
@@ -26,7 +25,7 @@ use Rattle.helper_coins.specs.Helpers.{at, share_step, rest_step, arrive_step}
 use Rattle.helper_coins.specs.Helpers.{Called as HelperCalled}
 use Rattle.boss_coins.specs.Bosses.{give_step, say_step, receive_step}
 use Rattle.boss_coins.specs.Bosses.{Called as BossCalled, TookIn as BossTook}
-use Rattle.runs.specs.System.{World, helper_at, mail_at, head, on_line, First, sent, Step, gives, says, shares, rests, flushes, comes, returns, Reach, then, Runs, onward}
+use Rattle.runs.specs.System.{World, no_mail, helper_at, mail_at, head, on_line, First, sent, Step, gives, says, shares, rests, flushes, comes, returns, Reach, then, Runs, onward}
 use Rattle.runs.specs.Letter.{is_done}
 use Rattle.runs.specs.Promise.{Promised, Taken, Welcome, is_give}
 use Rattle.runs.proofs.Tables.{by_test, placed, both_true}
@@ -35,24 +34,24 @@ use Rattle.runs.proofs.Queued.{same_node}
 use Rattle.runs.proofs.Always.{always}
 use Rattle.runs.proofs.Theorems.{promised_of}
 use Rattle.coins.specs.declared.work.Work.{Work}
-use Rattle.stage.specs.declared.parcel.Parcel.{Parcel}
+use Rattle.coins.specs.declared.parcel.Parcel.{Parcel}
 use Rattle.stage.specs.declared.command.Command.{Command}
 use Rattle.stage.specs.declared.command.Command.TheVariants.{Give, Share, Rest, Say, Pass, Flush}
-use Rattle.stage.specs.declared.command.Reply.{Reply}
-use Rattle.stage.specs.declared.command.Reply.TheVariants.{Answered, NoMemory}
+use Rattle.std.specs.declared.alloc.AllocError.{AllocError}
 use Rattle.coins.specs.Works.{no_work}
-use Rattle.stage.specs.Scenes.{Scene, mails, world, parcel_of, sent_on, room}
-use Rattle.stage.specs.Plays.{Out, boss_id, refuse, boss_did, helper_did, play_give, play_say, play_share, play_rest, play_flush, taken, to_helper, to_boss, play_pass, plays, no_memory, lacks, Outcome, Onward, Said, next, Lets}
+use Rattle.stage.specs.Scenes.{Scene, mails, world, sent_on, room}
+use Rattle.coins.specs.Parcels.{parcel_of}
+use Rattle.stage.specs.Plays.{Out, boss_id, refuse, boss_did, helper_did, play_give, play_say, play_share, play_rest, play_flush, taken, to_helper, to_boss, play_pass, plays, Outcome, Onward, Said, next, Lets}
 use Rattle.stage.proofs.Looks.{mails_length}
 
 pub clash : {P : Type 0} → ◌≡◌ {A = ℕ} 0 1 → P
 clash z = absurd (omega arith)
 
 -- the messages of a scene after a step
-pub mails_sent : (p : Post) (work : Work) (ps : List Parcel) → mails (sent_on p work ps) ≡ sent p (mails ps)
+pub mails_sent : (p : Option Mail) (work : Work) (ps : List Parcel) → mails (sent_on p work ps) ≡ sent p (mails ps)
 unfolding mails
-mails_sent Nothing work ps = refl
-mails_sent (Send m) work ps = map_push (λ (p : Parcel). p.mail) ps (parcel_of m work)
+mails_sent None work ps = refl
+mails_sent (Some m) work ps = map_push (λ (p : Parcel). p.mail) ps (parcel_of m work)
 
 pub mails_removed : (ps : List Parcel) (k : ℕ) → mails (remove ps k) ≡ remove (mails ps) k
 unfolding mails
@@ -60,10 +59,7 @@ mails_removed ps k = map-append (λ (p : Parcel). p.mail) (take k ps) (drop (suc
 
 -- the message that comes is the first of its line
 at_head : (ms : List Mail) (s r : NodeId) → head ms s r < length ms → on_line s r (mail_at ms (head ms s r)) ≡ true
-unfolding head
-at_head [] s r l = absurd (omega arith)
-at_head (m ∷ ms) s r l =
-    by_test (λ (k : ℕ). k < suc (length ms) → on_line s r (mail_at (m ∷ ms) k) ≡ true) (on_line s r m) 0 (suc (head ms s r)) (λ e _. e) (λ _ h. at_head ms s r (omega arith)) l
+at_head ms s r l = passes_at_first (on_line s r) ms no_mail l
 
 pub is_first : (ms : List Mail) (s r : NodeId) → head ms s r < length ms → First ms (head ms s r) × ((mail_at ms (head ms s r)).sender ≡ s) × ((mail_at ms (head ms s r)).receiver ≡ r)
 is_first ms s r l =
@@ -116,7 +112,7 @@ pub record Goes (giver : Bool) (w v : World) : Type 0 where
 -- a step or nothing; and done is answered only if it is meant to be
 pub record Fair (s : Scene) (giver : Bool) (D : Type 0) (o : Out) : Type 0 where
   pub goes : Goes giver (world s) (world o.scene) ⊎ (world o.scene ≡ world s)
-  pub done : o.reply ≡ Answered Done → D
+  pub done : o.answer ≡ Done → D
 
 refuses : (s : Scene) (g : Bool) (why : Refusal) (D : Type 0) → Fair s g D (refuse s why)
 refuses s g why D = record { goes = inr refl; done = λ e. clash (cc) }
@@ -124,15 +120,15 @@ refuses s g why D = record { goes = inr refl; done = λ e. clash (cc) }
 plainly : {g : Bool} {w v : World} (t : Step w v) → ((letter : ℕ) → is_give letter t ≡ false) → Goes g w v
 plainly t f = record { step = t; ungiven = λ _. f }
 
-answers : (a : Answer) → (a ≡ Done → ⊥) → (D : Type 0) → Answered a ≡ Answered Done → D
-answers a f D e = absurd (f (cc))
+answers : (a : Answer) → (a ≡ Done → ⊥) → (D : Type 0) → a ≡ Done → D
+answers a f D e = absurd (f e)
 
-by_boss : (s : Scene) (b : Boss) (p : Post) (work : Work) (a : Answer) → (a ≡ Done → ⊥) →
+by_boss : (s : Scene) (b : Boss) (p : Option Mail) (work : Work) (a : Answer) → (a ≡ Done → ⊥) →
     Goes true (world s) (record { boss = b; helpers = s.helpers; post = sent p (mails s.parcels) }) → Fair s true ⊥ (boss_did s b p work a)
 by_boss s b p work a f t =
     record { goes = inl (subst (λ (ms : List Mail). Goes true (world s) (record { boss = b; helpers = s.helpers; post = ms })) (sym (mails_sent p work s.parcels)) t); done = answers a f ⊥ }
 
-by_helper : (s : Scene) (i : ℕ) (h : Helper) (p : Post) (work : Work) (a : Answer) → (a ≡ Done → ⊥) →
+by_helper : (s : Scene) (i : ℕ) (h : Helper) (p : Option Mail) (work : Work) (a : Answer) → (a ≡ Done → ⊥) →
     Goes false (world s) (record { boss = s.boss; helpers = set s.helpers i h; post = sent p (mails s.parcels) }) → Fair s false ⊥ (helper_did s i h p work a)
 by_helper s i h p work a f t =
     record { goes = inl (subst (λ (ms : List Mail). Goes false (world s) (record { boss = s.boss; helpers = set s.helpers i h; post = ms })) (sym (mails_sent p work s.parcels)) t); done = answers a f ⊥ }
@@ -165,16 +161,16 @@ fair_flush s by =
     (λ _. refuses s false _ ⊥)
 
 -- what comes is taken, or the boss leaves it for later
-came : (s : Scene) (k : ℕ) (p : Post) (b : Boss) (hs : List Helper) → Goes false (world s) (record { boss = b; helpers = hs; post = sent p (remove (mails s.parcels) k) }) →
+came : (s : Scene) (k : ℕ) (p : Option Mail) (b : Boss) (hs : List Helper) → Goes false (world s) (record { boss = b; helpers = hs; post = sent p (remove (mails s.parcels) k) }) →
     Goes false (world s) (world (record { boss = b; helpers = hs; parcels = sent_on p no_work (remove s.parcels k) }))
 came s k p b hs t =
     subst (λ (ms : List Mail). Goes false (world s) (record { boss = b; helpers = hs; post = ms })) (sym (mails_sent p no_work (remove s.parcels k) ∙ ap (λ (ms : List Mail). sent p ms) (mails_removed s.parcels k))) t
 
 -- what the boss leaves for later leaves the boss as it was
 abbrev Unmoved : Boss → Boss → Taking → Type 0
-Unmoved b c (Took p) = Unit {0}
-Unmoved b c Later = c ≡ b
-Unmoved b c (Turned why) = Unit {0}
+Unmoved b c (Ok p) = Unit {0}
+Unmoved b c (Err Later) = c ≡ b
+Unmoved b c (Err (Turned why)) = Unit {0}
 
 unmoved : (b : Boss) (sender : NodeId) (letter : LetterId) (kind : Kind) (places : ℕ) → Unmoved b (receive_step b sender letter kind places).boss (receive_step b sender letter kind places).taking
 unmoved b sender letter (Works c) places = tt
@@ -200,18 +196,18 @@ module _ (s : Scene) (P : Promised (world s)) (from to : NodeId) (k : ℕ) (l : 
 
   fair_helper : (places : ℕ) → to.number < length s.helpers → (g : Helper) (t : Taking) → arrive_step (helper_at s.helpers to.number) m.letter m.kind places ≡ record { helper = g; taking = t } → Taken t →
       Fair s false ⊥ (taken (record { boss = s.boss; helpers = set s.helpers to.number g; parcels = s.parcels }) k t)
-  fair_helper places lt g (Took p) e y =
+  fair_helper places lt g (Ok p) e y =
       record { goes = inl (came s k p s.boss (set s.helpers to.number g) (plainly (comes (world s) k to.number places g p f (ap (λ (x : NodeId). x.number) b) lt e) (λ _. refl))); done = λ q. clash (cc) }
-  fair_helper places lt g Later e y = absurd y
-  fair_helper places lt g (Turned why) e y = absurd y
+  fair_helper places lt g (Err Later) e y = absurd y
+  fair_helper places lt g (Err (Turned why)) e y = absurd y
 
   fair_boss : (places : ℕ) → to.number ≡ boss_number → (c : Boss) (t : Taking) → receive_step s.boss m.sender m.letter m.kind places ≡ record { boss = c; taking = t } → Welcome places t → Unmoved s.boss c t →
       Fair s false ⊥ (taken (record { boss = c; helpers = s.helpers; parcels = s.parcels }) k t)
-  fair_boss places n c (Took p) e y u =
+  fair_boss places n c (Ok p) e y u =
       record { goes = inl (came s k p c s.helpers (plainly (returns (world s) k places c p f (ap (λ (x : NodeId). x.number) b ∙ n) e) (λ _. refl))); done = λ q. clash (cc) }
-  fair_boss places n c Later e y u =
+  fair_boss places n c (Err Later) e y u =
       record { goes = inr (ap (λ (x : Boss). record { boss = x; helpers = s.helpers; post = mails s.parcels }) u); done = λ q. clash (cc) }
-  fair_boss places n c (Turned why) e y u = absurd y
+  fair_boss places n c (Err (Turned why)) e y u = absurd y
 
   -- who is no helper is the boss
   must_be_boss : length s.helpers ≤ to.number → to.number ≡ boss_number
@@ -262,14 +258,14 @@ fair_say s r letter =
           (x.1, ((promised_of (world (play_say s letter).scene) (∥∥₁_map r (λ q. then q goes.step))).sound letter.number x.0).quiet x.1);
     }
   where
-    quietly : (say_step s.boss letter).outcome.post ≡ Nothing
+    quietly : (say_step s.boss letter).outcome.post ≡ None
     quietly =
-        by_test (λ (d : BossCalled). d.outcome.post ≡ Nothing) (ltb (place s.boss.letters letter.number) 64) _ _
-        (λ _. by_test (λ (d : BossCalled). d.outcome.post ≡ Nothing) (eqb (get_or s.boss.given (place s.boss.letters letter.number) 0) (get_or s.boss.back (place s.boss.letters letter.number) 0)) _ _ (λ _. refl) (λ _. refl))
+        by_test (λ (d : BossCalled). d.outcome.post ≡ None) (ltb (place s.boss.letters letter.number) 64) _ _
+        (λ _. by_test (λ (d : BossCalled). d.outcome.post ≡ None) (eqb (get_or s.boss.given (place s.boss.letters letter.number) 0) (get_or s.boss.back (place s.boss.letters letter.number) 0)) _ _ (λ _. refl) (λ _. refl))
         (λ _. refl)
 
     goes : Goes false (world s) (world (play_say s letter).scene)
-    goes = subst (λ (p : Post). Goes false (world s) (record { boss = (say_step s.boss letter).boss; helpers = s.helpers; post = sent p (mails s.parcels) })) quietly (plainly (says (world s) letter) (λ _. refl))
+    goes = subst (λ (p : Option Mail). Goes false (world s) (record { boss = (say_step s.boss letter).boss; helpers = s.helpers; post = sent p (mails s.parcels) })) quietly (plainly (says (world s) letter) (λ _. refl))
 
 -- only a give is one
 abbrev pub is_giver : Command → Bool
@@ -289,16 +285,13 @@ fair s (Pass from to) work r = fair_pass s (promised_of (world s) r) from to
 fair s (Flush by) work r = fair_flush s by
 
 -- what a call that is as played, or found no memory, makes of the world
-by_when : {P Q : Type 0} (b : Bool) → MatchBool b P Q → P ⊎ Q
-by_when true p = inl p
-by_when false q = inr q
-
-module _ (s t : Scene) (c : Command) (work : Work) (r : Reply) (h : Outcome (lacks c r) (plays s c work) s t r) (q : ∥ Reach (world s) ∥₁) where
+module _ (s t : Scene) (c : Command) (work : Work) (r : Result Answer AllocError) (h : Outcome (plays s c work) s t r) (q : ∥ Reach (world s) ∥₁) where
   pub went : Goes (is_giver c) (world s) (world t) ⊎ (world t ≡ world s)
-  went =
-      ⊎_elim (λ e. inr (ap world e))
-      (λ e. subst (λ (o : Out). Goes (is_giver c) (world s) (world o.scene) ⊎ (world o.scene ≡ world s)) e (fair s c work q).goes)
-      (by_when (lacks c r) h)
+  went = by_result r h
+    where
+      by_result : (x : Result Answer AllocError) → Outcome (plays s c work) s t x → Goes (is_giver c) (world s) (world t) ⊎ (world t ≡ world s)
+      by_result (Ok a) e = subst (λ (o : Out). Goes (is_giver c) (world s) (world o.scene) ⊎ (world o.scene ≡ world s)) e (fair s c work q).goes
+      by_result (Err x) e = inr (ap world e)
 
   pub goes_on : Onward (world s) (world t)
   goes_on = ⊎_elim (λ g. inl g.step) inr went
@@ -306,30 +299,17 @@ module _ (s t : Scene) (c : Command) (work : Work) (r : Reply) (h : Outcome (lac
   pub reach_on : ∥ Reach (world t) ∥₁
   reach_on = ∥∥₁_map q (λ p. ⊎_elim (λ g. then p g) (λ e. subst Reach (sym e) p) goes_on)
 
-no_lack : (P Q : Type 0) (c : Command) (a : Answer) → MatchBool (lacks c (Answered a)) P Q → Q
-no_lack P Q (Give letter to) a h = h
-no_lack P Q (Share by letter to) a h = h
-no_lack P Q (Rest by letter) a h = h
-no_lack P Q (Say letter) a h = h
-no_lack P Q (Pass from to) a h = h
-no_lack P Q (Flush by) a h = h
-
 -- what was played where there was memory
-pub answered_as : (s t : Scene) (c : Command) (work : Work) (r : Reply) (a : Answer) → Outcome (lacks c r) (plays s c work) s t r → r ≡ Answered a → plays s c work ≡ record { scene = t; reply = Answered a }
-answered_as s t c work r a h e =
-    no_lack (t ≡ s) (plays s c work ≡ record { scene = t; reply = Answered a }) c a (subst (λ (x : Reply). Outcome (lacks c x) (plays s c work) s t x) e h)
+pub answered_as : (s t : Scene) (c : Command) (work : Work) (r : Result Answer AllocError) (a : Answer) → Outcome (plays s c work) s t r → r ≡ Ok a → plays s c work ≡ record { scene = t; answer = a }
+answered_as s t c work r a h e = subst (λ (x : Result Answer AllocError). Outcome (plays s c work) s t x) e h
 
-pub done_on : (s t : Scene) (c : Command) (work : Work) (r : Reply) → Outcome (lacks c r) (plays s c work) s t r → ∥ Reach (world s) ∥₁ → r ≡ Answered Done → Said c (world t)
+pub done_on : (s t : Scene) (c : Command) (work : Work) (r : Result Answer AllocError) → Outcome (plays s c work) s t r → ∥ Reach (world s) ∥₁ → r ≡ Ok Done → Said c (world t)
 done_on s t c work r h q d =
     let o = answered_as s t c work r Done h d in
-    subst (λ (x : Out). Said c (world x.scene)) o ((fair s c work q).done (ap (λ (x : Out). x.reply) o))
+    subst (λ (x : Out). Said c (world x.scene)) o ((fair s c work q).done (ap (λ (x : Out). x.answer) o))
 
-pub as_played : (s t : Scene) (c : Command) (work : Work) (r : Reply) → Outcome (lacks c r) (plays s c work) s t r → no_memory r ≡ false → plays s c work ≡ record { scene = t; reply = r }
-as_played s t c work (Answered a) h e = answered_as s t c work (Answered a) a h refl
-as_played s t c work NoMemory h e = clash (cc)
-
-pub lets_on : (s m t : Scene) (c : Command) (r : Reply) → Outcome (lacks c r) (plays m c no_work) m t r → no_memory r ≡ false → Lets s m → next m ≡ Some c → Lets s t
-lets_on s m t c r h e l n = subst (Lets s) (ap (λ (o : Out). o.scene) (as_played m t c no_work r h e)) (Lets.onward c l n)
+pub lets_on : (s m t : Scene) (c : Command) (a : Answer) → plays m c no_work ≡ record { scene = t; answer = a } → Lets s m → next m ≡ Some c → Lets s t
+lets_on s m t c a h l n = subst (Lets s) (ap (λ (o : Out). o.scene) h) (Lets.onward c l n)
 
 pub runs_on : (w v u : World) → Runs w v → Onward v u → Runs w u
 runs_on w v u p (inl t) = onward p t

@@ -1,20 +1,19 @@
 -- Letting messages come ends, and leaves nothing under way; what was quiet stays quiet, and all its coins are back.
-use Rattle.std.proofs.Common.{◌≡◌, ℕ, zero, suc, ◌+◌, ◌<◌, ◌≤◌, Bool, true, false, cond, ◌&&◌, eqb, ltb, ◌⊎◌, List, [], ◌∷◌, length, set, Some, None, MatchBool, count_by, Option, sym, refl, ap, ◌∙◌, subst, inl, inr, ⊎_elim, arith, ltb-false, ltb-true}
+use Rattle.std.proofs.Common.{◌≡◌, ℕ, suc, ◌+◌, ◌<◌, ◌≤◌, Bool, true, false, cond, ◌&&◌, eqb, ltb, ◌⊎◌, List, [], ◌∷◌, length, set, Some, None, count_by, Option, sym, refl, ap, ◌∙◌, subst, inl, inr, ⊎_elim, arith, ltb-false, ltb-true, Ok, Err}
 use mathlib.Core.Logic.{∥∥₁_elim, ∥∥₁_map}
 use mathlib.Core.Bool.{Bool-set}
 use native.Mathlib.Bridge.{le_prop}
 use native.Mathlib.Nat.{ℕ_set}
 use Rattle.std.specs.List.{remove}
 use Rattle.std.proofs.lemmas.List.{get_or_past, nil_from_length}
-use Rattle.std.proofs.lemmas.List.Sums.{sum_by-cons}
+use Rattle.std.proofs.lemmas.List.Sums.{sum_by-cons, passes_at_first, fails_before_first}
 use Rattle.std.proofs.lemmas.Bool.{eq-eqb, ne_eqb}
 use Rattle.std.proofs.lemmas.Bool.Decides.{eqb_tells, leb_tells}
 use Rattle.coins.specs.declared.ids.NodeId.{NodeId}
 use Rattle.coins.specs.declared.mail.Kind.TheVariants.{Ask}
 use Rattle.coins.specs.declared.mail.Mail.{Mail}
-use Rattle.coins.specs.declared.mail.Post.{Post}
-use Rattle.coins.specs.declared.mail.Taking.{Taking}
-use Rattle.coins.specs.declared.mail.Taking.TheVariants.{Took, Later, Refused as Turned}
+use Rattle.coins.specs.Mails.{Taking}
+use Rattle.coins.specs.declared.mail.Untaken.TheVariants.{Later, Refused as Turned}
 use Rattle.helper_coins.specs.declared.helper.Helper.{Helper}
 use Rattle.helper_coins.specs.declared.holding.Holding.{Holding}
 use Rattle.boss_coins.specs.declared.boss.Boss.{Boss}
@@ -25,7 +24,7 @@ use Rattle.helper_coins.specs.Helpers.{at, seek_waiting, flush_step, arrive_step
 use Rattle.helper_coins.specs.Helpers.{TookIn as HelperTook}
 use Rattle.boss_coins.specs.Bosses.{receive_step}
 use Rattle.boss_coins.specs.Bosses.{TookIn as BossTook}
-use Rattle.runs.specs.System.{World, helper_at, mail_at, head, on_line, First, Reach}
+use Rattle.runs.specs.System.{World, no_mail, no_helper, helper_at, mail_at, head, on_line, First, Reach}
 use Rattle.runs.specs.Letter.{view, Quiet, holding_at, holdings_of, post_of, weigh, mailed}
 use Rattle.runs.specs.Promise.{Promised, Taken, Welcome}
 use Rattle.runs.specs.Promise as promise
@@ -35,62 +34,43 @@ use Rattle.runs.proofs.Holders.{Tidy, held_at}
 use Rattle.runs.proofs.Views.{held_get, held_length, post_none}
 use Rattle.runs.proofs.Always.{Whole, always, fine_at}
 use Rattle.runs.proofs.Theorems.{promised, quiet_of, quiet_goes_on, quiet_is_said}
-use Rattle.stage.specs.declared.parcel.Parcel.{Parcel}
+use Rattle.coins.specs.declared.parcel.Parcel.{Parcel}
 use Rattle.stage.specs.declared.command.Command.{Command}
-use Rattle.stage.specs.declared.command.Command.TheVariants.{Give, Share, Rest, Say, Pass, Flush}
-use Rattle.stage.specs.declared.command.Reply.{Reply}
+use Rattle.stage.specs.declared.command.Command.TheVariants.{Flush}
+use Rattle.coins.specs.declared.answer.Answer.{Answer}
 use Rattle.coins.specs.Works.{no_work}
 use Rattle.stage.specs.Scenes.{Scene, mails, world, sent_on, room, seek_helper, seek_holder, load}
-use Rattle.stage.specs.Plays.{Out, boss_id, taken, to_helper, to_boss, play_pass, play_flush, plays, no_memory, lacks, Outcome, passing, next, Settled, Calmed}
-use Rattle.stage.proofs.Looks.{mails_length}
+use Rattle.stage.specs.Plays.{Out, boss_id, taken, to_helper, to_boss, play_pass, play_flush, plays, passing, next, Settled, Calmed}
+use Rattle.stage.proofs.Looks.{no_parcel, mails_length, mail_of}
 use Rattle.stage.proofs.Played.{mails_sent, mails_removed, is_first, is_giver, went, clash}
 use Rattle.stage.proofs.Loads.{weighs, Lighter, Drops, mailed_sent, mailed_removed, arrive_lighter, flush_lighter, receive_lighter, load_helper, load_boss}
 
 -- a message on a line has a first before it
 head_found : (ms : List Mail) (s r : NodeId) (k : ℕ) → k < length ms → on_line s r (mail_at ms k) ≡ true → head ms s r ≤ k
-unfolding head
-head_found [] s r k l e = absurd (omega arith)
-head_found (m ∷ ms) s r zero l e = rw e (omega arith)
-head_found (m ∷ ms) s r (suc k) l e =
-    let h = head_found ms s r k (omega arith) e in
-    by_test (λ (j : ℕ). j ≤ suc k) (on_line s r m) 0 (suc (head ms s r)) (λ _. omega arith) (λ _. omega arith)
+head_found ms s r k l e =
+    elim (leb_tells (head ms s r) k) [
+      | inl t ↦ t.1
+      | inr t ↦ absurd (let z : true ≡ false = sym e ∙ fails_before_first (on_line s r) ms k no_mail t.1 in clash (cc))
+    ]
 
 own_line : (m : Mail) → on_line m.sender m.receiver m ≡ true
 own_line m = rw (eq-eqb m.sender.number m.sender.number refl, eq-eqb m.receiver.number m.receiver.number refl)
 
 -- who is found is for a helper, and where none is found there is none
 helper_at_place : (ps : List Parcel) (n : ℕ) → seek_helper ps n < length ps → (mail_at (mails ps) (seek_helper ps n)).receiver.number < n
-unfolding seek_helper mails
-helper_at_place [] n l = absurd (omega arith)
-helper_at_place (p ∷ ps) n l =
-    by_test (λ (k : ℕ). k < suc (length ps) → (mail_at (p.mail ∷ mails ps) k).receiver.number < n) (ltb p.mail.receiver.number n) 0 (suc (seek_helper ps n)) (λ t _. ltb-true _ _ t) (λ _ h. helper_at_place ps n (omega arith)) l
+helper_at_place ps n l = rw (mail_of ps (seek_helper ps n) l) (ltb-true _ _ (passes_at_first (λ (p : Parcel). ltb p.mail.receiver.number n) ps no_parcel l))
 
 no_helper_before : (ps : List Parcel) (n j : ℕ) → length ps ≤ seek_helper ps n → j < length ps → n ≤ (mail_at (mails ps) j).receiver.number
-unfolding seek_helper mails
-no_helper_before [] n j h l = absurd (omega arith)
-no_helper_before (p ∷ ps) n zero h l = by_test (λ (k : ℕ). suc (length ps) ≤ k → n ≤ p.mail.receiver.number) (ltb p.mail.receiver.number n) 0 (suc (seek_helper ps n)) (λ _ q. absurd (omega arith)) (λ f _. ltb-false _ _ f) h
-no_helper_before (p ∷ ps) n (suc j) h l =
-    no_helper_before ps n j (by_test (λ (k : ℕ). suc (length ps) ≤ k → length ps ≤ seek_helper ps n) (ltb p.mail.receiver.number n) 0 (suc (seek_helper ps n)) (λ _ q. absurd (omega arith)) (λ _ q. omega arith) h) (omega arith)
+no_helper_before ps n j h l = rw (mail_of ps j l) (ltb-false _ _ (fails_before_first (λ (p : Parcel). ltb p.mail.receiver.number n) ps j no_parcel (omega arith)))
 
 holder_at : (hs : List Helper) → seek_holder hs < length hs → seek_waiting (helper_at hs (seek_holder hs)).holdings < 64
-unfolding seek_holder
-holder_at [] l = absurd (omega arith)
-holder_at (h ∷ hs) l =
-    by_test (λ (k : ℕ). k < suc (length hs) → seek_waiting (helper_at (h ∷ hs) k).holdings < 64) (ltb (seek_waiting h.holdings) 64) 0 (suc (seek_holder hs)) (λ t _. ltb-true _ _ t) (λ _ q. holder_at hs (omega arith)) l
+holder_at hs l = ltb-true _ _ (passes_at_first (λ (h : Helper). ltb (seek_waiting h.holdings) 64) hs no_helper l)
 
 no_holder : (hs : List Helper) (j : ℕ) → length hs ≤ seek_holder hs → j < length hs → 64 ≤ seek_waiting (helper_at hs j).holdings
-unfolding seek_holder
-no_holder [] j h l = absurd (omega arith)
-no_holder (x ∷ hs) zero h l = by_test (λ (k : ℕ). suc (length hs) ≤ k → 64 ≤ seek_waiting x.holdings) (ltb (seek_waiting x.holdings) 64) 0 (suc (seek_holder hs)) (λ _ q. absurd (omega arith)) (λ f _. ltb-false _ _ f) h
-no_holder (x ∷ hs) (suc j) h l =
-    no_holder hs j (by_test (λ (k : ℕ). suc (length hs) ≤ k → length hs ≤ seek_holder hs) (ltb (seek_waiting x.holdings) 64) 0 (suc (seek_holder hs)) (λ _ q. absurd (omega arith)) (λ _ q. omega arith) h) (omega arith)
+no_holder hs j h l = ltb-false _ _ (fails_before_first (λ (h : Helper). ltb (seek_waiting h.holdings) 64) hs j no_helper (omega arith))
 
 not_waiting : (xs : List Holding) (j : ℕ) → j < seek_waiting xs → waits (at xs j) ≡ false
-unfolding seek_waiting
-not_waiting [] j l = absurd (omega arith)
-not_waiting (x ∷ xs) zero l = by_test (λ (k : ℕ). 0 < k → waits x ≡ false) (waits x) 0 (suc (seek_waiting xs)) (λ _ q. absurd (omega arith)) (λ f _. f) l
-not_waiting (x ∷ xs) (suc j) l =
-    not_waiting xs j (by_test (λ (k : ℕ). suc j < k → j < seek_waiting xs) (waits x) 0 (suc (seek_waiting xs)) (λ _ q. absurd (omega arith)) (λ _ q. omega arith) l)
+not_waiting xs j l = fails_before_first waits xs j idle l
 
 -- a line on which nothing is under way has all its places
 count_none : (ps : List Parcel) (s r : NodeId) → ((j : ℕ) → j < length ps → on_line s r (mail_at (mails ps) j) ≡ false) → count_by (λ p. on_line s r p.mail) ps ≡ 0
@@ -117,7 +97,7 @@ module _ (s : Scene) (W : Whole (world s)) (P : Promised (world s)) (from to : N
   abbrev m : Mail
   m = mail_at (mails s.parcels) k
 
-  post_lighter : (p : Post) → mailed (mails (sent_on p no_work (remove s.parcels k))) + weigh m.kind ≡ mailed (mails s.parcels) + weighs p
+  post_lighter : (p : Option Mail) → mailed (mails (sent_on p no_work (remove s.parcels k))) + weigh m.kind ≡ mailed (mails s.parcels) + weighs p
   post_lighter p =
       omega (arith, ap mailed (mails_sent p no_work (remove s.parcels k)), mailed_sent p (mails (remove s.parcels k)), ap mailed (mails_removed s.parcels k), mailed_removed (mails s.parcels) k l)
 
@@ -134,10 +114,10 @@ module _ (s : Scene) (W : Whole (world s)) (P : Promised (world s)) (from to : N
       lighter = arrive_lighter to.number (helper_at s.helpers to.number) T m.letter m.kind (room s.parcels to boss_id)
 
       go : (g : Helper) (t : Taking) → Taken t → Lighter (helper_at s.helpers to.number) (weigh m.kind) g t → load (world (taken (record { boss = s.boss; helpers = set s.helpers to.number g; parcels = s.parcels }) k t).scene) < load (world s)
-      go g (Took p) y h =
+      go g (Ok p) y h =
           omega (arith, load_helper (world s) to.number g (mails (sent_on p no_work (remove s.parcels k))) lt, post_lighter p, h)
-      go g Later y h = absurd y
-      go g (Turned why) y h = absurd y
+      go g (Err Later) y h = absurd y
+      go g (Err (Turned why)) y h = absurd y
 
   boss_falls : to.number ≡ boss_number → (m.kind ≡ Ask → 1 ≤ room s.parcels to from) → load (world (to_boss s k from to m).scene) < load (world s)
   boss_falls n free =
@@ -147,9 +127,9 @@ module _ (s : Scene) (W : Whole (world s)) (P : Promised (world s)) (from to : N
       d = receive_step s.boss m.sender m.letter m.kind (room s.parcels to from)
 
       go : (c : Boss) (t : Taking) → Welcome (room s.parcels to from) t → Drops (weigh m.kind) t → load (world (taken (record { boss = c; helpers = s.helpers; parcels = s.parcels }) k t).scene) < load (world s)
-      go c (Took p) y h = omega (arith, load_boss (world s) c (mails (sent_on p no_work (remove s.parcels k))), post_lighter p, h)
-      go c Later y h = absurd h
-      go c (Turned why) y h = absurd y
+      go c (Ok p) y h = omega (arith, load_boss (world s) c (mails (sent_on p no_work (remove s.parcels k))), post_lighter p, h)
+      go c (Err Later) y h = absurd h
+      go c (Err (Turned why)) y h = absurd y
 
   -- an asker is a helper, so there is a place for its answer when nothing is under way to a helper
   asker : ((j : ℕ) → j < length s.parcels → length s.helpers ≤ (mail_at (mails s.parcels) j).receiver.number) → from ≡ m.sender → m.kind ≡ Ask → 1 ≤ room s.parcels to from
@@ -261,20 +241,10 @@ falls_by s c W P (goes_to_helper k l y e) = subst (λ (d : Command). load (world
 falls_by s c W P (goes_to_boss l none e) = subst (λ (d : Command). load (world (plays s d no_work).scene) < load (world s)) (sym e) (pass_falls s W P 0 l (inr none))
 falls_by s c W P (to_flush i z l q e) = subst (λ (d : Command). load (world (plays s d no_work).scene) < load (world s)) (sym e) (flush_falls s W i z l q)
 
-answered_lacks : (c : Command) (r : Reply) → no_memory r ≡ false → lacks c r ≡ false
-answered_lacks (Give letter to) r e = e
-answered_lacks (Share by letter to) r e = e
-answered_lacks (Rest by letter) r e = e
-answered_lacks (Say letter) r e = refl
-answered_lacks (Pass from to) r e = refl
-answered_lacks (Flush by) r e = e
-
 -- Each turn leaves less to come.
-pub falls : (s t : Scene) (c : Command) (r : Reply) → Outcome (lacks c r) (plays s c no_work) s t r → no_memory r ≡ false → ∥ Reach (world s) ∥₁ → next s ≡ Some c → load (world t) < load (world s)
-falls s t c r h a q n =
-    ∥∥₁_elim q le_prop (λ run.
-    subst (λ (o : Out). load (world o.scene) < load (world s)) (subst (λ (b : Bool). MatchBool b (t ≡ s) (plays s c no_work ≡ record { scene = t; reply = r })) (answered_lacks c r a) h)
-    (falls_by s c (always run) (promised (world s) run) (next_is s c n)))
+pub falls : (s t : Scene) (c : Command) (a : Answer) → plays s c no_work ≡ record { scene = t; answer = a } → ∥ Reach (world s) ∥₁ → next s ≡ Some c → load (world t) < load (world s)
+falls s t c a h q n =
+    ∥∥₁_elim q le_prop (λ run. subst (λ (o : Out). load (world o.scene) < load (world s)) h (falls_by s c (always run) (promised (world s) run) (next_is s c n)))
 
 next_no_give : (s : Scene) (c : Command) → Next s c → is_giver c ≡ false
 next_no_give s c (goes_to_helper k l y e) = ap is_giver e
@@ -282,13 +252,13 @@ next_no_give s c (goes_to_boss l none e) = ap is_giver e
 next_no_give s c (to_flush i z l q e) = ap is_giver e
 
 -- Each turn leaves quiet what is quiet.
-pub calm_on : (w : World) (s t : Scene) (c : Command) (r : Reply) → Outcome (lacks c r) (plays s c no_work) s t r → ∥ Reach (world s) ∥₁ → next s ≡ Some c →
+pub calm_on : (w : World) (s t : Scene) (c : Command) (a : Answer) → plays s c no_work ≡ record { scene = t; answer = a } → ∥ Reach (world s) ∥₁ → next s ≡ Some c →
     ((letter : ℕ) → 1 ≤ letter → Quiet (view letter w) → Quiet (view letter (world s))) → (letter : ℕ) → 1 ≤ letter → Quiet (view letter w) → Quiet (view letter (world t))
-calm_on w s t c r h q n before letter pos quiet =
+calm_on w s t c a h q n before letter pos quiet =
     ⊎_elim
     (λ g. quiet_of (view letter (world t)) (∥∥₁_map q (λ run. (quiet_goes_on (world s) (world t) _ letter pos run now (promise.onward promise.still g.step (g.ungiven (next_no_give s c (next_is s c n)) letter))).0)))
     (λ e. subst (λ (v : World). Quiet (view letter v)) (sym e) now)
-    (went s t c no_work r h q)
+    (went s t c no_work (Ok a) h q)
   where
     now : Quiet (view letter (world s))
     now = before letter pos quiet

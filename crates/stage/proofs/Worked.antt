@@ -1,22 +1,21 @@
 -- The worked cases, computed.
 use Rattle.std.proofs.Common.{refl}
 use Rattle.std.proofs.lemmas.List.Elements.{All-from_recursion}
-use Rattle.coins.specs.Letters.{seek}
-use Rattle.runs.specs.System.{crew, head}
+use Rattle.runs.specs.System.{crew}
 use Rattle.runs.specs.Letter.{holdings_of, post_of}
 use Rattle.stage.specs.Scenes.{mails, room}
 use Rattle.stage.specs.Cases.{CasesHold, cases, Holds, sharing, asking, resting}
 
 share_holds : Holds sharing
-unfolding seek crew head holdings_of post_of mails room
+unfolding crew holdings_of post_of mails room
 share_holds = (refl, (refl, (refl, (refl, (refl, (refl, (refl, (refl, tt))))))))
 
 ask_holds : Holds asking
-unfolding seek crew head holdings_of post_of mails room
+unfolding crew holdings_of post_of mails room
 ask_holds = (refl, (refl, (refl, (refl, tt))))
 
 rest_holds : Holds resting
-unfolding seek crew head holdings_of post_of mails room
+unfolding crew holdings_of post_of mails room
 rest_holds = (refl, (refl, (refl, (refl, tt))))
 
 pub cases_hold : CasesHold

@@ -1,5 +1,6 @@
 -- Worked cases, as rows of one table: what is played, and what is seen of letter 1 after it.
 use Rattle.std.specs.Prelude.{◌≡◌, ℕ, zero, suc, Bool, true, false, List, [], ◌∷◌, ◌++◌, map, All}
+use Rattle.coins.specs.declared.answer.Answer.{Answer}
 use Rattle.coins.specs.declared.answer.Answer.TheVariants.{Fine, Done, Refused}
 use Rattle.coins.specs.declared.answer.Refusal.TheVariants.{CoinsOut, OneCoin}
 use Rattle.coins.specs.declared.ids.NodeId.{NodeId}
@@ -10,16 +11,14 @@ use Rattle.coins.specs.Mails.{coins_in}
 use Rattle.runs.specs.Letter.{view}
 use Rattle.stage.specs.declared.command.Command.{Command}
 use Rattle.stage.specs.declared.command.Command.TheVariants.{Give, Share, Rest, Say, Pass}
-use Rattle.stage.specs.declared.command.Reply.{Reply}
-use Rattle.stage.specs.declared.command.Reply.TheVariants.{Answered}
 use Rattle.coins.specs.Works.{no_work}
 use Rattle.stage.specs.Scenes.{opening, world}
 use Rattle.stage.specs.Plays.{Out, plays}
 
--- what is seen: the last reply; the boss's counts; of each helper its coins, and whether it is at work; and the coins
+-- what is seen: the last answer; the boss's counts; of each helper its coins, and whether it is at work; and the coins
 -- of each message under way
 pub record Seen : Type 0 where
-  pub reply : Reply
+  pub answer : Answer
   pub given : ℕ
   pub back : ℕ
   pub coins : List ℕ
@@ -43,7 +42,7 @@ play_all o (c ∷ cs) = play_all (plays o.scene c no_work) cs
 abbrev pub look : Out → Seen
 look o =
     record {
-      reply = o.reply;
+      answer = o.answer;
       given = (view 1 (world o.scene)).given;
       back = (view 1 (world o.scene)).back;
       coins = map (λ (h : Holding). h.coins) (view 1 (world o.scene)).holdings;
@@ -57,7 +56,7 @@ Goes o [] = Unit {0}
 Goes o (p ∷ ps) = (look (play_all o p.commands) ≡ p.seen) × Goes (play_all o p.commands) ps
 
 abbrev pub Holds : Case → Type 0
-Holds c = Goes (record { scene = opening c.helpers; reply = Answered Fine }) c.parts
+Holds c = Goes (record { scene = opening c.helpers; answer = Fine }) c.parts
 
 -- words for what is played
 abbrev helper : ℕ → NodeId
@@ -90,14 +89,14 @@ abbrev pub sharing : Case
 sharing = record {
   helpers = 2;
   parts =
-      record { commands = give 0 ∷ pass boss 0 ∷ []; seen = record { reply = Answered Fine; given = 1048576; back = 0; coins = 1048576 ∷ 0 ∷ []; working = true ∷ false ∷ []; under_way = [] } }
-      ∷ record { commands = share 0 1 ∷ pass 0 1 ∷ []; seen = record { reply = Answered Fine; given = 1048576; back = 0; coins = 524288 ∷ 524288 ∷ []; working = true ∷ true ∷ []; under_way = [] } }
-      ∷ record { commands = rest 0 ∷ pass 0 boss ∷ []; seen = record { reply = Answered Fine; given = 1048576; back = 524288; coins = 0 ∷ 524288 ∷ []; working = false ∷ true ∷ []; under_way = [] } }
-      ∷ record { commands = Say letter ∷ []; seen = record { reply = Answered (Refused CoinsOut); given = 1048576; back = 524288; coins = 0 ∷ 524288 ∷ []; working = false ∷ true ∷ []; under_way = [] } }
-      ∷ record { commands = share 1 0 ∷ rest 1 ∷ pass 1 boss ∷ []; seen = record { reply = Answered Fine; given = 1048576; back = 786432; coins = 0 ∷ 0 ∷ []; working = false ∷ false ∷ []; under_way = 262144 ∷ [] } }
-      ∷ record { commands = Say letter ∷ []; seen = record { reply = Answered (Refused CoinsOut); given = 1048576; back = 786432; coins = 0 ∷ 0 ∷ []; working = false ∷ false ∷ []; under_way = 262144 ∷ [] } }
-      ∷ record { commands = pass 1 0 ∷ rest 0 ∷ pass 0 boss ∷ []; seen = record { reply = Answered Fine; given = 1048576; back = 1048576; coins = 0 ∷ 0 ∷ []; working = false ∷ false ∷ []; under_way = [] } }
-      ∷ record { commands = Say letter ∷ []; seen = record { reply = Answered Done; given = 0; back = 0; coins = 0 ∷ 0 ∷ []; working = false ∷ false ∷ []; under_way = [] } }
+      record { commands = give 0 ∷ pass boss 0 ∷ []; seen = record { answer = Fine; given = 1048576; back = 0; coins = 1048576 ∷ 0 ∷ []; working = true ∷ false ∷ []; under_way = [] } }
+      ∷ record { commands = share 0 1 ∷ pass 0 1 ∷ []; seen = record { answer = Fine; given = 1048576; back = 0; coins = 524288 ∷ 524288 ∷ []; working = true ∷ true ∷ []; under_way = [] } }
+      ∷ record { commands = rest 0 ∷ pass 0 boss ∷ []; seen = record { answer = Fine; given = 1048576; back = 524288; coins = 0 ∷ 524288 ∷ []; working = false ∷ true ∷ []; under_way = [] } }
+      ∷ record { commands = Say letter ∷ []; seen = record { answer = Refused CoinsOut; given = 1048576; back = 524288; coins = 0 ∷ 524288 ∷ []; working = false ∷ true ∷ []; under_way = [] } }
+      ∷ record { commands = share 1 0 ∷ rest 1 ∷ pass 1 boss ∷ []; seen = record { answer = Fine; given = 1048576; back = 786432; coins = 0 ∷ 0 ∷ []; working = false ∷ false ∷ []; under_way = 262144 ∷ [] } }
+      ∷ record { commands = Say letter ∷ []; seen = record { answer = Refused CoinsOut; given = 1048576; back = 786432; coins = 0 ∷ 0 ∷ []; working = false ∷ false ∷ []; under_way = 262144 ∷ [] } }
+      ∷ record { commands = pass 1 0 ∷ rest 0 ∷ pass 0 boss ∷ []; seen = record { answer = Fine; given = 1048576; back = 1048576; coins = 0 ∷ 0 ∷ []; working = false ∷ false ∷ []; under_way = [] } }
+      ∷ record { commands = Say letter ∷ []; seen = record { answer = Done; given = 0; back = 0; coins = 0 ∷ 0 ∷ []; working = false ∷ false ∷ []; under_way = [] } }
       ∷ [];
 }
 
@@ -106,19 +105,19 @@ abbrev halves : List ℕ
 halves = 524288 ∷ 262144 ∷ 131072 ∷ 65536 ∷ 32768 ∷ 16384 ∷ 8192 ∷ 4096 ∷ 2048 ∷ 1024 ∷ 512 ∷ 256 ∷ 128 ∷ 64 ∷ 32 ∷ 16 ∷ 8 ∷ 4 ∷ 2 ∷ 1 ∷ []
 
 abbrev spent : Part
-spent = record { commands = give 0 ∷ pass boss 0 ∷ times 20 (share 0 1); seen = record { reply = Answered Fine; given = 1048576; back = 0; coins = 1 ∷ 0 ∷ []; working = true ∷ false ∷ []; under_way = halves } }
+spent = record { commands = give 0 ∷ pass boss 0 ∷ times 20 (share 0 1); seen = record { answer = Fine; given = 1048576; back = 0; coins = 1 ∷ 0 ∷ []; working = true ∷ false ∷ []; under_way = halves } }
 
 -- With one coin it asks for more.
 abbrev asked : Part
-asked = record { commands = share 0 1 ∷ []; seen = record { reply = Answered (Refused OneCoin); given = 1048576; back = 0; coins = 1 ∷ 0 ∷ []; working = true ∷ false ∷ []; under_way = halves ++ 0 ∷ [] } }
+asked = record { commands = share 0 1 ∷ []; seen = record { answer = Refused OneCoin; given = 1048576; back = 0; coins = 1 ∷ 0 ∷ []; working = true ∷ false ∷ []; under_way = halves ++ 0 ∷ [] } }
 
 -- More come, and it shares again.
 abbrev pub asking : Case
 asking = record {
   helpers = 2;
   parts = spent ∷ asked
-      ∷ record { commands = pass 0 boss ∷ pass boss 0 ∷ []; seen = record { reply = Answered Fine; given = 2097152; back = 0; coins = 1048577 ∷ 0 ∷ []; working = true ∷ false ∷ []; under_way = halves } }
-      ∷ record { commands = share 0 1 ∷ []; seen = record { reply = Answered Fine; given = 2097152; back = 0; coins = 524289 ∷ 0 ∷ []; working = true ∷ false ∷ []; under_way = halves ++ 524288 ∷ [] } }
+      ∷ record { commands = pass 0 boss ∷ pass boss 0 ∷ []; seen = record { answer = Fine; given = 2097152; back = 0; coins = 1048577 ∷ 0 ∷ []; working = true ∷ false ∷ []; under_way = halves } }
+      ∷ record { commands = share 0 1 ∷ []; seen = record { answer = Fine; given = 2097152; back = 0; coins = 524289 ∷ 0 ∷ []; working = true ∷ false ∷ []; under_way = halves ++ 524288 ∷ [] } }
       ∷ [];
 }
 
@@ -127,8 +126,8 @@ abbrev pub resting : Case
 resting = record {
   helpers = 2;
   parts = spent ∷ asked
-      ∷ record { commands = rest 0 ∷ pass 0 boss ∷ pass 0 boss ∷ []; seen = record { reply = Answered Fine; given = 2097152; back = 1; coins = 0 ∷ 0 ∷ []; working = false ∷ false ∷ []; under_way = halves ++ 1048576 ∷ [] } }
-      ∷ record { commands = pass boss 0 ∷ pass 0 boss ∷ []; seen = record { reply = Answered Fine; given = 2097152; back = 1048577; coins = 0 ∷ 0 ∷ []; working = false ∷ false ∷ []; under_way = halves } }
+      ∷ record { commands = rest 0 ∷ pass 0 boss ∷ pass 0 boss ∷ []; seen = record { answer = Fine; given = 2097152; back = 1; coins = 0 ∷ 0 ∷ []; working = false ∷ false ∷ []; under_way = halves ++ 1048576 ∷ [] } }
+      ∷ record { commands = pass boss 0 ∷ pass 0 boss ∷ []; seen = record { answer = Fine; given = 2097152; back = 1048577; coins = 0 ∷ 0 ∷ []; working = false ∷ false ∷ []; under_way = halves } }
       ∷ [];
 }
 

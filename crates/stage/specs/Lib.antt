@@ -1,5 +1,4 @@
 pub mod Scenes
 pub mod Plays
 pub mod Tables
-pub mod Stages
 pub mod Cases

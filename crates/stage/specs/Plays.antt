@@ -1,5 +1,6 @@
 -- What each command does to a scene, and what is replied.
-use Rattle.std.specs.Prelude.{◌≡◌, ℕ, ◌≤◌, Bool, true, false, cond, ◌⊎◌, [], length, Some, None, MatchBool, Option, nat_lt, slice_set}
+use Rattle.std.specs.Prelude.{◌≡◌, ℕ, ◌≤◌, true, false, cond, ◌⊎◌, [], length, Some, None, Ok, Err, Result, Option, MatchResult, nat_lt, slice_set}
+use Rattle.std.specs.declared.alloc.AllocError.{AllocError}
 use Rattle.std.specs.List.{remove}
 use Rattle.coins.specs.declared.ids.LetterId.{LetterId}
 use Rattle.coins.specs.declared.ids.NodeId.{NodeId}
@@ -8,9 +9,8 @@ use Rattle.coins.specs.declared.answer.Answer.TheVariants.{Fine, Refused}
 use Rattle.coins.specs.declared.answer.Refusal.{Refusal}
 use Rattle.coins.specs.declared.answer.Refusal.TheVariants.{Malformed, NoPlace}
 use Rattle.coins.specs.declared.mail.Mail.{Mail}
-use Rattle.coins.specs.declared.mail.Post.{Post}
-use Rattle.coins.specs.declared.mail.Taking.{Taking}
-use Rattle.coins.specs.declared.mail.Taking.TheVariants.{Took, Later, Refused as Turned}
+use Rattle.coins.specs.declared.mail.Untaken.TheVariants.{Later, Refused as Turned}
+use Rattle.coins.specs.Mails.{Taking}
 use Rattle.helper_coins.specs.declared.helper.Helper.{Helper}
 use Rattle.boss_coins.specs.declared.boss.Boss.{Boss}
 use Rattle.coins.specs.Limits.{boss_number}
@@ -22,26 +22,24 @@ use Rattle.runs.specs.Letter.{view, is_done, Quiet, holding_at}
 use Rattle.coins.specs.declared.work.Work.{Work}
 use Rattle.stage.specs.declared.command.Command.{Command}
 use Rattle.stage.specs.declared.command.Command.TheVariants.{Give, Share, Rest, Say, Pass, Flush}
-use Rattle.stage.specs.declared.command.Reply.{Reply}
-use Rattle.stage.specs.declared.command.Reply.TheVariants.{Answered, NoMemory}
 use Rattle.coins.specs.Works.{no_work}
 use Rattle.stage.specs.Scenes.{Scene, mails, sent_on, room, seek_helper, seek_holder}
 
 pub record Out : Type 0 where
   pub scene : Scene
-  pub reply : Reply
+  pub answer : Answer
 
 abbrev pub boss_id : NodeId
 boss_id = record { number = boss_number }
 
 abbrev pub refuse : Scene → Refusal → Out
-refuse s why = record { scene = s; reply = Answered (Refused why) }
+refuse s why = record { scene = s; answer = Refused why }
 
-abbrev pub boss_did : Scene → Boss → Post → Work → Answer → Out
-boss_did s b p work a = record { scene = record { boss = b; helpers = s.helpers; parcels = sent_on p work s.parcels }; reply = Answered a }
+abbrev pub boss_did : Scene → Boss → Option Mail → Work → Answer → Out
+boss_did s b p work a = record { scene = record { boss = b; helpers = s.helpers; parcels = sent_on p work s.parcels }; answer = a }
 
-abbrev pub helper_did : Scene → ℕ → Helper → Post → Work → Answer → Out
-helper_did s i h p work a = record { scene = record { boss = s.boss; helpers = slice_set s.helpers i h; parcels = sent_on p work s.parcels }; reply = Answered a }
+abbrev pub helper_did : Scene → ℕ → Helper → Option Mail → Work → Answer → Out
+helper_did s i h p work a = record { scene = record { boss = s.boss; helpers = slice_set s.helpers i h; parcels = sent_on p work s.parcels }; answer = a }
 
 abbrev pub play_give : Scene → LetterId → NodeId → Work → Out
 play_give s letter to work =
@@ -50,7 +48,7 @@ play_give s letter to work =
     (refuse s Malformed)
 
 abbrev pub play_say : Scene → LetterId → Out
-play_say s letter = record { scene = record { boss = (say_step s.boss letter).boss; helpers = s.helpers; parcels = s.parcels }; reply = Answered (say_step s.boss letter).outcome.answer }
+play_say s letter = record { scene = record { boss = (say_step s.boss letter).boss; helpers = s.helpers; parcels = s.parcels }; answer = (say_step s.boss letter).outcome.answer }
 
 -- what a helper does when it is called
 abbrev pub share_of : Scene → NodeId → LetterId → NodeId → Work → Out
@@ -83,9 +81,9 @@ play_flush s by =
 
 -- what becomes of the k-th message: taken, it is under way no more
 abbrev pub taken : Scene → ℕ → Taking → Out
-taken s k (Took p) = record { scene = record { boss = s.boss; helpers = s.helpers; parcels = sent_on p no_work (remove s.parcels k) }; reply = Answered Fine }
-taken s k Later = refuse s NoPlace
-taken s k (Turned why) = refuse s why
+taken s k (Ok p) = record { scene = record { boss = s.boss; helpers = s.helpers; parcels = sent_on p no_work (remove s.parcels k) }; answer = Fine }
+taken s k (Err Later) = refuse s NoPlace
+taken s k (Err (Turned why)) = refuse s why
 
 abbrev pub to_helper : Scene → ℕ → NodeId → Mail → Out
 to_helper s k r m =
@@ -114,22 +112,18 @@ plays s (Say letter) work = play_say s letter
 plays s (Pass from r) work = play_pass s from r
 plays s (Flush by) work = play_flush s by
 
-abbrev pub no_memory : Reply → Bool
-no_memory (Answered a) = false
-no_memory NoMemory = true
-
 -- only what sends may find no memory for it
-abbrev pub lacks : Command → Reply → Bool
-lacks (Give letter to) r = no_memory r
-lacks (Share by letter to) r = no_memory r
-lacks (Rest by letter) r = no_memory r
-lacks (Say letter) r = false
-lacks (Pass from to) r = false
-lacks (Flush by) r = no_memory r
+abbrev pub Sends : Command → Type 0
+Sends (Give letter to) = Unit {0}
+Sends (Share by letter to) = Unit {0}
+Sends (Rest by letter) = Unit {0}
+Sends (Say letter) = ⊥
+Sends (Pass from to) = ⊥
+Sends (Flush by) = Unit {0}
 
--- it is as played; or there was no memory, and nothing happened
-abbrev pub Outcome : Bool → Out → Scene → Scene → Reply → Type 0
-Outcome lacking o s t r = MatchBool lacking (t ≡ s) (o ≡ record { scene = t; reply = r })
+-- it is as played, and this is answered; or there was no memory, and nothing happened
+abbrev pub Outcome : Out → Scene → Scene → Result Answer AllocError → Type 0
+Outcome o s t r = MatchResult r (λ a. o ≡ record { scene = t; answer = a }) (λ _. t ≡ s)
 
 -- the world went on by a step, or is the same
 abbrev pub Onward : World → World → Type 0

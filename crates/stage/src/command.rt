@@ -1,11 +1,10 @@
-// What can be played on a stage, and what is replied.
+// What can be played on a stage.
 ghost use Rattle.std.specs.Prelude.{◌≡◌};
 
-use coins::answer::Answer;
 use coins::ids::{LetterId, NodeId};
 use coins::mail::Mail;
 
-#[derive(Clone, Copy)]
+#[derive(Clone, Copy, Debug, PartialEq, Eq)]
 pub enum Command {
     // the boss gives work of a letter to a helper
     Give {
@@ -48,11 +47,4 @@ impl Command {
             receiver: mail.receiver,
         }
     }
-}
-
-#[derive(Clone, Copy)]
-pub enum Reply {
-    Answered(Answer),
-    // there is no memory for a message: nothing happened
-    NoMemory,
 }

@@ -4,6 +4,5 @@
 pub mod cases;
 pub mod command;
 mod lines;
-pub mod parcel;
 pub mod stage;
 mod table;

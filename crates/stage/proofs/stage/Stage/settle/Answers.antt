@@ -1,43 +1,49 @@
-use Rattle.std.proofs.Common.{sym, ap, subst}
-use Rattle.runs.specs.System.{still}
+use Rattle.std.proofs.Common.{◌≡◌, Some, sym, subst}
+use Rattle.runs.specs.System.{Reach, still}
 use Rattle.runs.proofs.Theorems.{promised_of}
 use Rattle.coins.specs.declared.work.Work.{Work}
 use Rattle.coins.specs.Works.{no_work}
-use Rattle.stage.specs.Scenes.{world}
-use Rattle.stage.specs.Plays.{plays, lacks, no_memory, Outcome, Lets}
-use Rattle.stage.specs.Tables.{scene}
+use Rattle.stage.specs.Scenes.{Scene, world}
+use Rattle.stage.specs.Plays.{plays, next, Lets}
 use Rattle.stage.proofs.Played.{runs_on, lets_on}
 use Rattle.stage.proofs.Settles.{falls, calm_on, settled, calmed}
 use Rattle.stage.proofs.stage.Stage.settle.Goals as goal
 
--- what was played in this turn, with no bytes of work
-played : (c : goal.In_default-play) →
-    Outcome (lacks c.in-Some.command c.play.result) (plays (scene c.loop-command.self.table) c.in-Some.command no_work) (scene c.loop-command.self.table) (scene c.play.new.self.table) c.play.result
+-- the world before this turn is one that is reached, and what came by itself in it was played, with no bytes of work
+reached : (c : goal.In_ok-play) → ∥ Reach (world c.loop-command.self) ∥₁
+reached c = subst (λ (s : Scene). ∥ Reach (world s) ∥₁) c.self.view_is c.self.invariant
+
+chosen : (c : goal.In_ok-play) → next c.loop-command.self ≡ Some c.in-Some.command
+chosen c = rw (← c.self.view_is) (sym c.in-Some.ensures)
+
+played : (c : goal.In_ok-play) → plays c.loop-command.self c.in-Some.command no_work ≡ record { scene = c.play.new.self; answer = c.in_ok-play.field-0 }
 played c =
-    subst (λ (w : Work). Outcome (lacks c.in-Some.command c.play.result) (plays (scene c.loop-command.self.table) c.in-Some.command w) (scene c.loop-command.self.table) (scene c.play.new.self.table) c.play.result)
-    c.none.ensures c.play.ensures.does
+    subst (λ (w : Work). plays c.loop-command.self c.in-Some.command w ≡ record { scene = c.play.new.self; answer = c.in_ok-play.field-0 })
+    c.none.ensures c.in_ok-play.ensures.does
 
 pub loop-command-init : goal.loop-command-init
 loop-command-init c = (Lets.still, still, λ letter pos q. q)
 
 pub loop-command-smaller : goal.loop-command-smaller
-loop-command-smaller c =
-    falls (scene c.loop-command.self.table) (scene c.play.new.self.table) c.in-Some.command c.play.result (played c) (ap no_memory c.in_default-play.is) c.loop-command.self.reached (sym c.in-Some.ensures)
+loop-command-smaller c = falls c.loop-command.self c.play.new.self c.in-Some.command c.in_ok-play.field-0 (played c) (reached c) (chosen c)
 
 pub loop-command-preserved : goal.loop-command-preserved
 loop-command-preserved c = (
-  lets_on _ _ _ c.in-Some.command c.play.result (played c) (ap no_memory c.in_default-play.is) c.loop-command.invariant.0 (sym c.in-Some.ensures),
+  lets_on _ _ _ c.in-Some.command c.in_ok-play.field-0 (played c) c.loop-command.invariant.0 (chosen c),
   runs_on _ _ _ c.loop-command.invariant.1 c.play.ensures.goes,
-  calm_on (world (scene c.args.self.now.table)) (scene c.loop-command.self.table) (scene c.play.new.self.table) c.in-Some.command c.play.result (played c) c.loop-command.self.reached (sym c.in-Some.ensures) c.loop-command.invariant.2,
+  calm_on (world c.args.self.now) c.loop-command.self c.play.new.self c.in-Some.command c.in_ok-play.field-0 (played c) (reached c) (chosen c) c.loop-command.invariant.2,
 )
 
-pub returns : goal.returns
-returns c =
-    let s = settled (scene c.loop-command.self.table) c.loop-command.self.reached (sym c.in_default.ensures) in
-    record {
-      does = λ _. (c.loop-command.invariant.0, sym c.in_default.ensures);
-      goes = c.loop-command.invariant.1;
-      promised = promised_of _ c.loop-command.self.reached;
-      settled = λ _. s;
-      calmed = λ _. calmed (world (scene c.args.self.now.table)) (world (scene c.loop-command.self.table)) c.loop-command.self.reached s c.loop-command.invariant.2;
-    }
+-- where nothing comes by itself any more
+at_end : (c : goal.In_default) → ∥ Reach (world c.loop-command.self) ∥₁
+at_end c = subst (λ (s : Scene). ∥ Reach (world s) ∥₁) c.self.view_is c.self.invariant
+
+pub returns-clause-promised : goal.returns-clause-promised
+returns-clause-promised c = promised_of _ (at_end c)
+
+pub returns-clause-settled : goal.returns-clause-settled
+returns-clause-settled c = settled c.loop-command.self (at_end c) (rw (← c.self.view_is) (sym c.in_default.ensures))
+
+pub returns-clause-calmed : goal.returns-clause-calmed
+returns-clause-calmed c =
+    calmed (world c.args.self.now) (world c.loop-command.self) (at_end c) (settled c.loop-command.self (at_end c) (rw (← c.self.view_is) (sym c.in_default.ensures))) c.loop-command.invariant.2
