@@ -3,13 +3,11 @@ use Rattle.std.proofs.Common.{◌≡◌, ℕ, sym, refl, ap, subst}
 use Rattle.coins.specs.declared.ids.NodeId.{NodeId}
 use Rattle.coins.specs.declared.answer.Answer.{Answer}
 use Rattle.coins.specs.declared.answer.Answer.TheVariants.{Fine, Done, Refused}
-use Rattle.runs.specs.System.{start}
+use Rattle.runs.specs.System.{World, Runs, still, start}
 use Rattle.stage.specs.declared.command.Command.{Command}
 use Rattle.stage.specs.declared.command.Command.TheVariants.{Give, Share, Rest, Say, Pass, Flush}
-use Rattle.stage.specs.declared.command.Reply.{Reply}
-use Rattle.stage.specs.declared.command.Reply.TheVariants.{Answered}
-use Rattle.stage.specs.Plays.{Out, plays, lacks, Outcome}
-use Rattle.stage.proofs.Played.{answered_as}
+use Rattle.stage.specs.Plays.{Out, plays, Onward}
+use Rattle.stage.proofs.Played.{runs_on}
 use Rattle.coins.specs.declared.work.Work.{Work}
 use Rattle.coins.specs.Works.{no_work}
 use Rattle.stage.specs.Scenes.{Scene, opening, mails, world}
@@ -32,6 +30,9 @@ pub at_start : (s : Scene) (n : ℕ) → s ≡ opening n → world s ≡ start n
 unfolding mails
 at_start s n e = ap world e
 
-pub flushed : (s t : Scene) (by : NodeId) (work : Work) (r : Reply) (a : Answer) → Outcome (lacks (Flush by) r) (plays s (Flush by) work) s t r → r ≡ Answered a → work ≡ no_work → t ≡ (plays s (Flush by) no_work).scene
-flushed s t by work r a h e n =
-    sym (ap (λ (o : Out). o.scene) (subst (λ (w : Work). plays s (Flush by) w ≡ record { scene = t; reply = Answered a }) n (answered_as s t (Flush by) work r a h e)))
+pub flushed : (s t : Scene) (by : NodeId) (work : Work) (a : Answer) → plays s (Flush by) work ≡ record { scene = t; answer = a } → work ≡ no_work → t ≡ (plays s (Flush by) no_work).scene
+flushed s t by work a h n = sym (ap (λ (o : Out). o.scene) (subst (λ (w : Work). plays s (Flush by) w ≡ record { scene = t; answer = a }) n h))
+
+-- a step, or none, is a run
+pub ran : {w v : World} → Onward w v → Runs w v
+ran o = runs_on _ _ _ still o

@@ -12,7 +12,6 @@ use Rattle.coins.specs.Works as work
 use Rattle.runs.specs.System.{World, Runs, start}
 use Rattle.stage.specs.declared.command.Command.{Command}
 use Rattle.stage.specs.declared.command.Command.TheVariants.{Give, Share, Rest, Say, Pass, Flush}
-use Rattle.stage.specs.declared.command.Reply.TheVariants.{Answered}
 use Rattle.stage.specs.Scenes.{Scene, opening, world}
 use Rattle.stage.specs.Plays.{plays, next, Lets, Said}
 use Rattle.rehearsal.specs.Answers.{answer_line}
@@ -36,7 +35,7 @@ follows (Flush by) a s = s
 -- a command is played, and what follows it
 pub record Acts (s : Scene) (command : Command) (bytes : Work) (t : Scene) (answer : Answer) : Type 0 where
   pub after : Scene
-  pub played : plays s command bytes ≡ record { scene = after; reply = Answered answer }
+  pub played : plays s command bytes ≡ record { scene = after; answer = answer }
   pub followed : t ≡ follows command answer after
 
 -- the hexadecimal of a piece of work: of at most 256 bytes

@@ -16,7 +16,7 @@ use Rattle.helper_coins.specs.declared.helper.Helper.{Helper}
 use Rattle.helper_coins.specs.Helpers.{holding_of}
 use Rattle.boss_coins.specs.Bosses.{given_of, back_of}
 use Rattle.runs.specs.System.{helper_at}
-use Rattle.stage.specs.declared.parcel.Parcel.{Parcel}
+use Rattle.coins.specs.declared.parcel.Parcel.{Parcel}
 use Rattle.stage.specs.Scenes.{Scene}
 
 -- a number on the right of so many columns; a longer one takes what it needs

@@ -4,32 +4,41 @@ ghost use Rattle.script.specs.Lines.{is_line, line_in, play, settle, show, new};
 ghost use Rattle.text.specs.Hex.{bytes_of};
 ghost use Rattle.coins.specs.Works.{no_work, bytes_of as work_bytes};
 ghost use Rattle.runs.specs.System.{Runs, start};
-ghost use Rattle.stage.specs.Scenes.{opening};
+ghost use Rattle.stage.specs.Scenes.{opening, world};
 ghost use Rattle.stage.specs.Plays.{plays, Said};
-ghost use Rattle.stage.specs.Stages.{scene_on, world_on};
 ghost use Rattle.rehearsal.specs.Steps.{follows, Acts, is_work, Plays, Does, Turns};
 
 use crate::answer::push_answer;
 use crate::show::push_stage;
 use coins::answer::{Answer, Refusal};
-use coins::ids::{BOSS, NodeId};
+use coins::ids::NodeId;
 use coins::work::Work;
 use script::line::{HELPERS, Line};
 use script::read::read;
-use stage::command::{Command, Reply};
+use stage::command::Command;
 use stage::stage::Stage;
 use std::alloc::{AllocError, Global};
+use std::marker::Model;
 use text::hex::{HexFault, unhex};
 
+// Seen as the scene that is on its stage.
 #[derive(Drop)]
 pub struct Rehearsal {
     heap: Global,
     stage: Stage,
 }
 
+impl Model for Rehearsal {
+    ghost use Rattle.stage.specs.Scenes.{Scene};
+
+    ghost Value = { Scene };
+
+    ghost view = { λ r. r.stage };
+}
+
 fn staged(heap: Global, helpers: u16) -> Result<Stage, AllocError>
-    ensures opens { IfOk result (λ s. scene_on s ≡ opening helpers) }
-    ensures starts { IfOk result (λ s. world_on s ≡ start helpers) }
+    ensures opens { IfOk result (λ s. s ≡ opening helpers) }
+    ensures starts { IfOk result (λ s. world s ≡ start helpers) }
 {
     match Stage::new(heap, helpers) {
         Ok(stage) => Ok(stage),
@@ -37,19 +46,10 @@ fn staged(heap: Global, helpers: u16) -> Result<Stage, AllocError>
     }
 }
 
-fn answered(reply: Reply) -> Result<Answer, AllocError>
-    ensures { MatchResult result (λ a. reply ≡ Reply.Answered a) (λ _. reply ≡ Reply.NoMemory) }
-{
-    match reply {
-        Reply::Answered(answer) => Ok(answer),
-        Reply::NoMemory => Err(AllocError),
-    }
-}
-
 impl Rehearsal {
     // A rehearsal with eight helpers, on which nothing has happened.
     pub fn new(heap: Global) -> Result<Rehearsal, AllocError>
-        ensures { IfOk result (λ x. scene_on x.stage ≡ opening 8) }
+        ensures { IfOk result (λ x. x ≡ opening 8) }
     {
         Ok(Rehearsal {
             heap,
@@ -59,10 +59,10 @@ impl Rehearsal {
 
     // Coins that waited for a place go, where there is one.
     fn flush(&mut self, by: NodeId) -> Result<(), AllocError>
-        ensures does { OnOk result (scene_on self.new.stage ≡ (plays (scene_on self.old.stage) (Command.Flush by) no_work).scene) }
-        ensures goes { Runs (world_on self.old.stage) (world_on self.new.stage) }
+        ensures does { OnOk result (self.new ≡ (plays self.old (Command.Flush by) no_work).scene) }
+        ensures goes { Runs (world self.old) (world self.new) }
     {
-        answered(self.stage.play(Command::Flush { by }, Work::none()))?;
+        self.stage.play(Command::Flush { by }, Work::none())?;
         Ok(())
     }
 
@@ -79,9 +79,9 @@ impl Rehearsal {
 
     // Where a helper's message came, there is a place for coins that waited.
     fn follow(&mut self, command: Command, answer: Answer) -> Result<(), AllocError>
-        ensures does { OnOk result (scene_on self.new.stage ≡ follows command answer (scene_on self.old.stage)) }
-        ensures goes { Runs (world_on self.old.stage) (world_on self.new.stage) }
-        ensures done { answer ≡ Answer.Done → world_on self.new.stage ≡ world_on self.old.stage }
+        ensures does { OnOk result (self.new ≡ follows command answer self.old) }
+        ensures goes { Runs (world self.old) (world self.new) }
+        ensures done { answer ≡ Answer.Done → world self.new ≡ world self.old }
     {
         let Command::Pass { sender, .. } = command else {
             return Ok(());
@@ -89,7 +89,7 @@ impl Rehearsal {
         let Answer::Fine = answer else {
             return Ok(());
         };
-        if sender.number == BOSS {
+        if sender == NodeId::boss() {
             return Ok(());
         }
         self.flush(sender)
@@ -97,20 +97,20 @@ impl Rehearsal {
 
     // Plays a command, and what follows it.
     fn act(&mut self, command: Command, work: Work) -> Result<Answer, AllocError>
-        ensures does { IfOk result (λ a. Acts (scene_on self.old.stage) command work (scene_on self.new.stage) a) }
-        ensures goes { Runs (world_on self.old.stage) (world_on self.new.stage) }
-        ensures done { IfOk result (λ a. a ≡ Answer.Done → Said command (world_on self.new.stage)) }
+        ensures does { IfOk result (λ a. Acts self.old command work self.new a) }
+        ensures goes { Runs (world self.old) (world self.new) }
+        ensures done { IfOk result (λ a. a ≡ Answer.Done → Said command (world self.new)) }
     {
-        let answer = answered(self.stage.play(command, work))?;
+        let answer = self.stage.play(command, work)?;
         self.follow(command, answer)?;
         Ok(answer)
     }
 
     // Plays a command of a line, with the hexadecimal of its work.
     fn play(&mut self, command: Command, hex: &[u8]) -> Result<Answer, AllocError>
-        ensures does { IfOk result (λ a. Plays (scene_on self.old.stage) command hex.now (scene_on self.new.stage) a) }
-        ensures goes { Runs (world_on self.old.stage) (world_on self.new.stage) }
-        ensures done { IfOk result (λ a. a ≡ Answer.Done → Said command (world_on self.new.stage)) }
+        ensures does { IfOk result (λ a. Plays self.old command hex.now self.new a) }
+        ensures goes { Runs (world self.old) (world self.new) }
+        ensures done { IfOk result (λ a. a ≡ Answer.Done → Said command (world self.new)) }
     {
         let Some(work) = self.work(hex)? else {
             return Ok(Answer::Refused(Refusal::Malformed));
@@ -120,8 +120,8 @@ impl Rehearsal {
 
     // Plays a command of a line, and puts its answer behind what is there.
     fn tell(&mut self, command: Command, hex: &[u8], out: &mut Vec<u8>) -> Result<(), AllocError>
-        ensures does { OnOk result (Does true (play command hex.now) (scene_on self.old.stage) (scene_on self.new.stage) out.old.items out.new.items) }
-        ensures goes { Runs (world_on self.old.stage) (world_on self.new.stage) }
+        ensures does { OnOk result (Does true (play command hex.now) self.old self.new out.old.items out.new.items) }
+        ensures goes { Runs (world self.old) (world self.new) }
     {
         let answer = self.play(command, hex)?;
         push_answer(out, answer)
@@ -129,23 +129,23 @@ impl Rehearsal {
 
     // Messages come until none is left.
     fn settle(&mut self, out: &mut Vec<u8>) -> Result<(), AllocError>
-        ensures does { OnOk result (Does true settle (scene_on self.old.stage) (scene_on self.new.stage) out.old.items out.new.items) }
-        ensures goes { Runs (world_on self.old.stage) (world_on self.new.stage) }
+        ensures does { OnOk result (Does true settle self.old self.new out.old.items out.new.items) }
+        ensures goes { Runs (world self.old) (world self.new) }
     {
-        answered(self.stage.settle())?;
+        self.stage.settle()?;
         push_answer(out, Answer::Fine)
     }
 
     fn restart(&mut self, helpers: u16, out: &mut Vec<u8>) -> Result<(), AllocError>
-        ensures starts { OnOk result (world_on self.new.stage ≡ start helpers) }
-        ensures does { OnOk result (Does true (new helpers) (scene_on self.old.stage) (scene_on self.new.stage) out.old.items out.new.items) }
+        ensures starts { OnOk result (world self.new ≡ start helpers) }
+        ensures does { OnOk result (Does true (new helpers) self.old self.new out.old.items out.new.items) }
     {
         self.stage = staged(self.heap, helpers)?;
         push_answer(out, Answer::Fine)
     }
 
     fn show(&self, out: &mut Vec<u8>) -> Result<(), AllocError>
-        ensures { OnOk result (Does true show (scene_on self.now.stage) (scene_on self.now.stage) out.old.items out.new.items) }
+        ensures { OnOk result (Does true show self.now self.now out.old.items out.new.items) }
     {
         push_stage(self.heap, out, &self.stage)?;
         push_answer(out, Answer::Fine)
@@ -153,8 +153,8 @@ impl Rehearsal {
 
     // Plays a line, and puts what is shown and answered behind what is there.
     pub fn step(&mut self, line: &[u8], out: &mut Vec<u8>) -> Result<(), AllocError>
-        ensures does { OnOk result (Does (is_line line.now) (line_in line.now) (scene_on self.old.stage) (scene_on self.new.stage) out.old.items out.new.items) }
-        ensures turns { OnOk result (Turns (is_line line.now) (line_in line.now) (world_on self.old.stage) (world_on self.new.stage)) }
+        ensures does { OnOk result (Does (is_line line.now) (line_in line.now) self.old self.new out.old.items out.new.items) }
+        ensures turns { OnOk result (Turns (is_line line.now) (line_in line.now) (world self.old) (world self.new)) }
     {
         match read(line) {
             Some(Line::Empty) => Ok(()),

@@ -1,14 +1,13 @@
 // The table of all letters that are open, and what is under way of them.
 ghost use Rattle.std.specs.Prelude.{◌≡◌, min, length, IfOk, OnOk};
 ghost use Rattle.text.specs.Growth.{Added};
-ghost use Rattle.stage.specs.Stages.{scene_on};
 ghost use Rattle.rehearsal.specs.Tables.{coins_column, counts_row, work_column, asked_column, helper_row, node_column, kind_column, bytes_column, mail_row, helper_rows, row_of, parcel_rows, headed, letter_table, table_of, tables, or_none, Sorted, Shown};
 
 use boss_coins::boss::Boss;
 use coins::ids::{BOSS, LetterId, NodeId};
 use coins::mail::{Kind, Mail};
+use coins::parcel::Parcel;
 use helper_coins::holding::Holding;
-use stage::parcel::Parcel;
 use stage::stage::Stage;
 use std::alloc::{AllocError, Global};
 use text::decimal::{push_aligned, push_number};
@@ -17,7 +16,7 @@ use text::plain::push_text;
 
 // Puts the table of all open letters behind what is there, by their numbers.
 pub(crate) fn push_stage(heap: Global, out: &mut Vec<u8>, stage: &Stage) -> Result<(), AllocError>
-    ensures { OnOk result (Shown (scene_on stage.now) out.old.items out.new.items) }
+    ensures { OnOk result (Shown stage.now out.old.items out.new.items) }
 {
     let numbers = open_letters(heap, stage.boss())?;
     let mut letters = Vec::new(heap);
@@ -52,7 +51,7 @@ fn push_letters(
     stage: &Stage,
     numbers: &[u32],
 ) -> Result<(), AllocError>
-    ensures { OnOk result (Added out.old.items out.new.items (tables (scene_on stage.now) numbers.now)) }
+    ensures { OnOk result (Added out.old.items out.new.items (tables stage.now numbers.now)) }
 {
     for number in numbers {
         push_open(heap, out, stage, *number)?;
@@ -62,7 +61,7 @@ fn push_letters(
 
 // A letter, or nothing where the number is 0.
 fn push_open(heap: Global, out: &mut Vec<u8>, stage: &Stage, number: u32) -> Result<(), AllocError>
-    ensures { OnOk result (Added out.old.items out.new.items (table_of (scene_on stage.now) number)) }
+    ensures { OnOk result (Added out.old.items out.new.items (table_of stage.now number)) }
 {
     if number > 0 {
         push_letter(heap, out, stage, LetterId { number })?;
@@ -76,7 +75,7 @@ fn push_letter(
     stage: &Stage,
     letter: LetterId,
 ) -> Result<(), AllocError>
-    ensures { OnOk result (Added out.old.items out.new.items (letter_table (scene_on stage.now) letter)) }
+    ensures { OnOk result (Added out.old.items out.new.items (letter_table stage.now letter)) }
 {
     let boss = stage.boss();
     push_counts(out, letter, boss.given(letter), boss.back(letter))?;
@@ -100,7 +99,7 @@ fn push_counts(out: &mut Vec<u8>, letter: LetterId, given: u64, back: u64) -> Re
 }
 
 fn push_helpers(out: &mut Vec<u8>, stage: &Stage, letter: LetterId) -> Result<(), AllocError>
-    ensures { OnOk result (Added out.old.items out.new.items (helper_rows (scene_on stage.now).helpers letter (min (length (scene_on stage.now).helpers) 256))) }
+    ensures { OnOk result (Added out.old.items out.new.items (helper_rows stage.now.helpers letter (min (length stage.now.helpers) 256))) }
 {
     for i in 0..stage.helpers().min(256) {
         let helper = NodeId { number: i as u16 };

@@ -9,7 +9,6 @@ use Rattle.helper_coins.specs.declared.helper.Helper.{Helper}
 use Rattle.helper_coins.specs.Helpers.{new_helper}
 use Rattle.runs.specs.System.{crew, no_helper, head, on_line, no_mail, mail_at, helper_at}
 use Rattle.coins.specs.declared.parcel.Parcel.{Parcel}
-use Rattle.coins.specs.Works.{no_work}
 use Rattle.stage.specs.Scenes.{mails}
 
 -- the first message on a line, among messages and among parcels
@@ -43,7 +42,7 @@ unfolding mails
 mails_length ps = length-map ps (λ (p : Parcel). p.mail)
 
 abbrev pub no_parcel : Parcel
-no_parcel = record { mail = no_mail; work = no_work }
+no_parcel = record { mail = no_mail; work = record { len = 0; bytes = [] } }
 
 pub mail_of : (ps : List Parcel) (k : ℕ) → k < length ps → mail_at (mails ps) k ≡ (get_or ps k no_parcel).mail
 unfolding mails

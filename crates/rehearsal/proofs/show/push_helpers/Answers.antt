@@ -1,7 +1,6 @@
 use Rattle.std.proofs.Common.{◌≡◌, ℕ, ◌<◌, List, ◌++◌, length, vec_items, ap, ◌∙◌, append_assoc, add-one, rules}
 use Rattle.helper_coins.specs.Helpers.{holding_of}
 use Rattle.runs.specs.System.{helper_at}
-use Rattle.stage.specs.Stages.{scene_on}
 use Rattle.rehearsal.specs.Tables.{helper_rows, helper_row}
 use Rattle.rehearsal.proofs.show.push_helpers.Goals as goal
 
@@ -13,7 +12,7 @@ pub loop-i-preserved : goal.loop-i-preserved
 unfolding helper_rows
 loop-i-preserved c =
     let i = c.loop-i.i in
-    let hs = (scene_on c.args.stage.now).helpers in
+    let hs = c.args.stage.now.helpers in
     let letter = c.args.letter in
     let n : c.helpers.result ≡ length hs = c.helpers.ensures in
     let lt : i < length hs = search rules in

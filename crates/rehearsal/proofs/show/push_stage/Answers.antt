@@ -1,14 +1,13 @@
 use Rattle.std.proofs.Common.{◌≡◌, vec_items, ap, ◌∙◌, subst}
 use Rattle.boss_coins.specs.declared.boss.Boss.{Boss}
 use Rattle.text.specs.Growth.{Added}
-use Rattle.stage.specs.Stages.{scene_on}
 use Rattle.rehearsal.specs.Tables.{tables, or_none, Sorted}
 use Rattle.rehearsal.proofs.Headings.{from_none}
 use Rattle.rehearsal.proofs.show.push_stage.Goals as goal
 
 pub returns : goal.returns
 returns c =
-    let s = scene_on c.args.stage.now in
+    let s = c.args.stage.now in
     let numbers = vec_items c.in_ok-numbers.numbers in
     let letters = vec_items c.push_letters.new.out in
     let boss : c.boss.result.now ≡ s.boss = c.boss.ensures in
