@@ -1,5 +1,5 @@
 -- Every step of the boss.
-use Rattle.std.specs.Prelude.{ℕ, ◌+◌, Bool, cond, ◌||◌, replicate, ◌==◌, nat_le, nat_lt, Some, None, Ok, Err, Option, slice_index, slice_set}
+use Rattle.std.specs.Prelude.{ℕ, ◌+◌, Bool, cond, ◌||◌, replicate, ◌==◌, nat_le, nat_lt, Some, None, Ok, Err, slice_index, slice_set}
 use Rattle.coins.specs.declared.ids.LetterId.{LetterId}
 use Rattle.coins.specs.declared.ids.NodeId.{NodeId}
 use Rattle.coins.specs.declared.answer.Answer.TheVariants.{Fine, Done, Refused}

@@ -1,8 +1,7 @@
 -- What goes out over lines.
-use Rattle.std.specs.Prelude.{◌≡◌, ℕ, suc, cond, List, [], ◌∷◌, ◌++◌, nat_lt, slice_set}
+use Rattle.std.specs.Prelude.{◌≡◌, ℕ, suc, cond, List, [], ◌∷◌, ◌++◌, nat_lt, slice_set, Option, Some, None}
 use Rattle.coins.specs.declared.ids.NodeId.{NodeId}
-use Rattle.coins.specs.declared.mail.Post.{Post}
-use Rattle.coins.specs.declared.mail.Post.TheVariants.{Nothing, Send}
+use Rattle.coins.specs.declared.mail.Mail.{Mail}
 use Rattle.coins.specs.declared.parcel.Parcel.{Parcel}
 use Rattle.coins.specs.declared.work.Work.{Work}
 use Rattle.coins.specs.Limits.{boss_number}
@@ -22,13 +21,13 @@ abbrev pub answer_of : NodeId → NodeId → ℕ → Packet
 answer_of s r n = record { sender = s; receiver = r; frame = framed (encode (taken_msg s.number r.number n)) }
 
 -- what a step sends is kept for its receiver, and goes out under the number after all before
-abbrev pub kept_for : Post → Work → List End → List End
-kept_for Nothing work es = es
-kept_for (Send m) work es = slice_set es (slot m.receiver.number) (keeping (end_at es (slot m.receiver.number)) (parcel_of m work))
+abbrev pub kept_for : Option Mail → Work → List End → List End
+kept_for None work es = es
+kept_for (Some m) work es = slice_set es (slot m.receiver.number) (keeping (end_at es (slot m.receiver.number)) (parcel_of m work))
 
-abbrev pub out_for : NodeId → Post → Work → List End → List Packet
-out_for me Nothing work es = []
-out_for me (Send m) work es = packet_of me m.receiver (suc (last_sent (end_at es (slot m.receiver.number)))) (parcel_of m work) ∷ []
+abbrev pub out_for : NodeId → Option Mail → Work → List End → List Packet
+out_for me None work es = []
+out_for me (Some m) work es = packet_of me m.receiver (suc (last_sent (end_at es (slot m.receiver.number)))) (parcel_of m work) ∷ []
 
 -- messages with the numbers after n, the oldest first
 unfoldable pub resent : NodeId → NodeId → ℕ → List Parcel → List Packet

@@ -1,9 +1,8 @@
 -- The ends that the code holds.
-use Rattle.std.specs.Prelude.{ℕ, Bool, true, false, ◌&&◌, List, map, vec_items, vec_len, vec_capacity, Vec, nat_lt, slice_index_or}
+use Rattle.std.specs.Prelude.{ℕ, Bool, true, false, ◌&&◌, List, map, vec_items, vec_len, vec_capacity, Vec, nat_lt, slice_index_or, Option, Some, None}
 use Rattle.lines.specs.declared.end.LineEnd.{LineEnd}
 use Rattle.lines.specs.declared.ends.LineEnds.{LineEnds}
-use Rattle.coins.specs.declared.mail.Post.{Post}
-use Rattle.coins.specs.declared.mail.Post.TheVariants.{Nothing, Send}
+use Rattle.coins.specs.declared.mail.Mail.{Mail}
 use Rattle.std.specs.declared.alloc.Global.{Global}
 use Rattle.lines.specs.declared.packet.Packet.{Packet}
 use Rattle.lines.specs.Ends.{End, slot, end_at, room_of}
@@ -31,8 +30,8 @@ abbrev pub ready : LineEnds → ℕ → Bool
 ready e i = slice_index_or (spares_of e) i false
 
 -- whether there are a place and memory for what a step sends
-abbrev pub can_send : Post → LineEnds → Vec Packet Global → Bool
-can_send Nothing ends out = true
-can_send (Send m) ends out =
+abbrev pub can_send : Option Mail → LineEnds → Vec Packet Global → Bool
+can_send None ends out = true
+can_send (Some m) ends out =
     nat_lt (vec_len out) (vec_capacity out) &&
     (nat_lt 0 (room_of (end_at (ends_of ends) (slot m.receiver.number))) && ready ends (slot m.receiver.number))

@@ -15,8 +15,6 @@ pub mod window;
 
 // The promise of lines, for a small protocol above them: each run over lossy lines is a run over perfect lines, and
 // where lines are fair, what is posted is taken.
-pub fn lines_are_fine() -> u8
+pub fn lines_are_fine()
     ensures { LinesAreFine }
-{
-    0
-}
+{}

@@ -12,7 +12,7 @@ use crate::heard::Heard;
 use crate::packet::Packet;
 use coins::answer::Refusal;
 use coins::ids::NodeId;
-use coins::mail::{Kind, Post};
+use coins::mail::{Kind, Mail};
 use coins::parcel::Parcel;
 use coins::work::Work;
 use wire::message::{Body, Message, SequenceNumber};
@@ -33,12 +33,18 @@ pub fn answer_for(me: NodeId, peer: NodeId, number: u64) -> Packet
 impl LineEnds {
     // Keeps what a step sends, and puts it behind what goes out. False where there is no place or no memory was
     // made ready: then nothing changes.
-    pub fn send(&mut self, me: NodeId, post: Post, work: Work, out: &mut Vec<Packet>) -> bool
+    pub fn send(
+        &mut self,
+        me: NodeId,
+        post: Option<Mail>,
+        work: Work,
+        out: &mut Vec<Packet>,
+    ) -> bool
         ensures done { result ≡ can_send post self.old out.old }
         ensures ends { ends_of self.new ≡ (if result then kept_for post work (ends_of self.old) else ends_of self.old) }
         ensures out { out.new.items ≡ (if result then out.old.items ++ out_for me post work (ends_of self.old) else out.old.items) }
     {
-        let Post::Send(mail) = post else {
+        let Some(mail) = post else {
             return true;
         };
         if out.len() >= out.capacity() {

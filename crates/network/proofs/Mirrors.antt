@@ -1,14 +1,12 @@
 -- Worlds over lines that lose nothing, as mirrors of what is seen of the lines of the network: each step of the one is
 -- a step of the other.
-use Rattle.std.proofs.Common.{◌≡◌, ℕ, suc, ◌<◌, ◌≤◌, Bool, true, false, cond, ◌&&◌, eqb, ◌⊎◌, List, [], ◌∷◌, ◌++◌, map, length, All, filter, sym, refl, ap, ◌∙◌, subst, inl, inr, arith}
+use Rattle.std.proofs.Common.{◌≡◌, ℕ, suc, ◌<◌, ◌≤◌, Bool, true, false, cond, ◌&&◌, eqb, ◌⊎◌, List, [], ◌∷◌, ◌++◌, map, length, All, filter, sym, refl, ap, ◌∙◌, subst, inl, inr, arith, Option, Some, None, not, ◌+◌}
 use Rattle.std.specs.List.{remove}
 use Rattle.std.proofs.lemmas.List.Elements.{All-cons, All-head, All-tail, filter-append, filter_passes, All-push}
 use Rattle.std.proofs.lemmas.List.{append-nil, map-append, length-append, length-set, get_or_at}
 use Rattle.std.proofs.lemmas.Bool.{eqb-true}
 use Rattle.std.proofs.lemmas.Bool.Decides.{eqb_tells, nat_tests}
 use Rattle.coins.specs.declared.mail.Mail.{Mail}
-use Rattle.coins.specs.declared.mail.Post.{Post}
-use Rattle.coins.specs.declared.mail.Post.TheVariants.{Nothing, Send}
 use Rattle.coins.specs.Limits.{boss_number}
 use Rattle.helper_coins.specs.Helpers.{arrive_step}
 use Rattle.boss_coins.specs.Bosses.{receive_step}
@@ -59,7 +57,7 @@ pub record Moved (a z : Perfect Crew Item) (ms : List Mail) (give : ℕ → Bool
 
 -- what somebody did: rest is left of the messages, and out is sent
 record Did (x y : Crew) (ms rest : List Mail) (out : List (Sent Item)) (give : ℕ → Bool) (come : ℕ → ℕ) : Type 0 where
-  post : Post
+  post : Option Mail
   work : List ℕ
   out_is : out ≡ outgoing post work
   size : length y.helpers ≡ length x.helpers
@@ -71,18 +69,18 @@ record Did (x y : Crew) (ms rest : List Mail) (out : List (Sent Item)) (give : �
   comes_is : (letter : ℕ) → arrivals letter step ≡ come letter
 
 -- what is sent goes to the end of its queue, and to no other
-sent_lane : (p : Post) (work : List ℕ) (ms : List Mail) (i j : ℕ) →
+sent_lane : (p : Option Mail) (work : List ℕ) (ms : List Mail) (i j : ℕ) →
     filter (on_places i j) (sent p ms) ≡ filter (on_places i j) ms ++ mails (from_to i j (outgoing p work))
-sent_lane Nothing work ms i j = sym (append-nil (filter (on_places i j) ms))
-sent_lane (Send m) work ms i j = filter-append (on_places i j) ms (m ∷ []) ∙ ap (λ (xs : List Mail). filter (on_places i j) ms ++ xs) (one (on_places i j m))
+sent_lane None work ms i j = sym (append-nil (filter (on_places i j) ms))
+sent_lane (Some m) work ms i j = filter-append (on_places i j) ms (m ∷ []) ∙ ap (λ (xs : List Mail). filter (on_places i j) ms ++ xs) (one (on_places i j m))
   where
     one : (b : Bool) → cond b (m ∷ []) [] ≡ mails (cond b (record { mail = m; work = work } ∷ []) [])
     one true = refl
     one false = refl
 
-sent_from : (n k : ℕ) (p : Post) (ms : List Mail) → SentBy k p → IsNode n k → All (FromNode n) ms → All (FromNode n) (sent p ms)
-sent_from n k Nothing ms e h all = all
-sent_from n k (Send m) ms e h all = All-push (FromNode n) ms m all (rw e h)
+sent_from : (n k : ℕ) (p : Option Mail) (ms : List Mail) → SentBy k p → IsNode n k → All (FromNode n) ms → All (FromNode n) (sent p ms)
+sent_from n k None ms e h all = all
+sent_from n k (Some m) ms e h all = All-push (FromNode n) ms m all (rw e h)
 
 moved_by : (a : Perfect Crew Item) (ms rest : List Mail) (q q' : ℕ → ℕ → List Item) (y : Crew) (out : List (Sent Item)) (give : ℕ → Bool) (come : ℕ → ℕ) →
     Mirrors a ms → Did a.above y ms rest out give come → ((i j : ℕ) → mails (q i j) ≡ filter (on_places i j) rest) → All (FromNode (length a.above.helpers)) rest →
@@ -197,7 +195,6 @@ module _ {X : Type 0} where
   removed_at (y ∷ a) b x = ap (λ zs. y ∷ zs) (removed_at a b x)
 
 head_at : (a b : List Mail) (m : Mail) → filter (on_line m.sender m.receiver) a ≡ [] → head (a ++ m ∷ b) m.sender m.receiver ≡ length a
-unfolding head
 head_at [] b m e = rw (on_own m)
 head_at (x ∷ a) b m e = go (on_line m.sender m.receiver x) refl (λ h. head_at a b m h)
   where
@@ -205,9 +202,9 @@ head_at (x ∷ a) b m e = go (on_line m.sender m.receiver x) refl (λ h. head_at
     p = on_line m.sender m.receiver
 
     go : (c : Bool) → on_line m.sender m.receiver x ≡ c → (filter (on_line m.sender m.receiver) a ≡ [] → head (a ++ m ∷ b) m.sender m.receiver ≡ length a) →
-        cond (on_line m.sender m.receiver x) 0 (suc (head (a ++ m ∷ b) m.sender m.receiver)) ≡ suc (length a)
+        cond (not (on_line m.sender m.receiver x)) (1 + head (a ++ m ∷ b) m.sender m.receiver) 0 ≡ suc (length a)
     go true t rest = none_one (sym (rw t at e))
-    go false t rest = rw t (ap suc (rest (rw t at e)))
+    go false t rest = let h = rest (rw t at e) in rw t (omega (arith, h))
 
 module _ (s r : ℕ) (m : Mail) (a b : List Mail) (on : on_places s r m ≡ true) (none : filter (on_places s r) a ≡ []) where
   same_places : (x : Mail) → on_line m.sender m.receiver x ≡ true → on_places s r x ≡ true

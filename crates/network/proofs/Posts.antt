@@ -1,14 +1,13 @@
 -- Who sends what a step sends: the boss, or the helper whose step it is.
-use Rattle.std.proofs.Common.{◌≡◌, ℕ, ◌+◌, cond, not, ◌&&◌, ◌||◌, eqb, ltb, leb, get_or, refl, subst}
+use Rattle.std.proofs.Common.{◌≡◌, ℕ, ◌+◌, cond, not, ◌&&◌, ◌||◌, eqb, ltb, leb, get_or, refl, subst, Ok, Option, Err, Some, None}
 use Rattle.coins.specs.declared.answer.Refusal.TheVariants.{NoPlace}
 use Rattle.coins.specs.declared.ids.LetterId.{LetterId}
 use Rattle.coins.specs.declared.ids.NodeId.{NodeId}
 use Rattle.coins.specs.declared.mail.Kind.{Kind}
 use Rattle.coins.specs.declared.mail.Kind.TheVariants.{Work, More, Back, NoMore, Ask}
-use Rattle.coins.specs.declared.mail.Post.{Post}
-use Rattle.coins.specs.declared.mail.Post.TheVariants.{Nothing, Send}
-use Rattle.coins.specs.declared.mail.Taking.{Taking}
-use Rattle.coins.specs.declared.mail.Taking.TheVariants.{Took, Later, Refused}
+use Rattle.coins.specs.declared.mail.Mail.{Mail}
+use Rattle.coins.specs.Mails.{Taking}
+use Rattle.coins.specs.declared.mail.Untaken.TheVariants.{Later, Refused}
 use Rattle.helper_coins.specs.declared.helper.Helper.{Helper}
 use Rattle.boss_coins.specs.declared.boss.Boss.{Boss}
 use Rattle.coins.specs.Limits.{boss_number, grant, limit}
@@ -20,14 +19,14 @@ use Rattle.boss_coins.specs.Bosses as boss
 use Rattle.runs.proofs.Tables.{by_test}
 
 -- what is sent, if anything is, comes from this number
-abbrev pub SentBy : ℕ → Post → Type 0
-SentBy n Nothing = Unit {0}
-SentBy n (Send m) = m.sender.number ≡ n
+abbrev pub SentBy : ℕ → Option Mail → Type 0
+SentBy n None = Unit {0}
+SentBy n (Some m) = m.sender.number ≡ n
 
 abbrev TookBy : ℕ → Taking → Type 0
-TookBy n (Took p) = SentBy n p
-TookBy n Later = Unit {0}
-TookBy n (Refused why) = Unit {0}
+TookBy n (Ok p) = SentBy n p
+TookBy n (Err Later) = Unit {0}
+TookBy n (Err (Refused why)) = Unit {0}
 
 -- a fact about what a step leads to, kept whole while its tests are gone through
 record Holds {X : Type 0} (P : X → Type 0) (x : X) : Type 0 where
@@ -85,8 +84,8 @@ module _ (b : Boss) where
   receive_got sender letter (More c) room = record { fact = tt }
   receive_got sender letter NoMore room = record { fact = tt }
 
-  pub receive_by : (sender : NodeId) (letter : LetterId) (kind : Kind) (room : ℕ) (c : Boss) (p : Post) →
-      boss.receive_step b sender letter kind room ≡ record { boss = c; taking = Took p } → SentBy boss_number p
+  pub receive_by : (sender : NodeId) (letter : LetterId) (kind : Kind) (room : ℕ) (c : Boss) (p : Option Mail) →
+      boss.receive_step b sender letter kind room ≡ record { boss = c; taking = Ok p } → SentBy boss_number p
   receive_by sender letter kind room c p e = (subst Got e (receive_got sender letter kind room)).fact
 
 -- a helper
@@ -153,6 +152,6 @@ module _ (h : Helper) where
   arrive_met letter (Back c) boss = record { fact = tt }
   arrive_met letter Ask boss = record { fact = tt }
 
-  pub arrive_by : (letter : LetterId) (kind : Kind) (boss : ℕ) (g : Helper) (p : Post) →
-      helper.arrive_step h letter kind boss ≡ record { helper = g; taking = Took p } → SentBy h.me.number p
+  pub arrive_by : (letter : LetterId) (kind : Kind) (boss : ℕ) (g : Helper) (p : Option Mail) →
+      helper.arrive_step h letter kind boss ≡ record { helper = g; taking = Ok p } → SentBy h.me.number p
   arrive_by letter kind boss g p e = (subst Met e (arrive_met letter kind boss)).fact

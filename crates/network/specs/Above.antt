@@ -1,11 +1,8 @@
 -- The protocol above the lines: the boss and the helpers, what they are called for, and what they take.
-use Rattle.std.specs.Prelude.{◌≡◌, ℕ, ◌<◌, List, [], ◌∷◌, length, slice_set}
+use Rattle.std.specs.Prelude.{◌≡◌, ℕ, ◌<◌, List, [], ◌∷◌, length, slice_set, Option, Ok, Some, None}
 use Rattle.coins.specs.declared.ids.LetterId.{LetterId}
 use Rattle.coins.specs.declared.ids.NodeId.{NodeId}
 use Rattle.coins.specs.declared.mail.Mail.{Mail}
-use Rattle.coins.specs.declared.mail.Post.{Post}
-use Rattle.coins.specs.declared.mail.Post.TheVariants.{Nothing, Send}
-use Rattle.coins.specs.declared.mail.Taking.TheVariants.{Took}
 use Rattle.helper_coins.specs.declared.helper.Helper.{Helper}
 use Rattle.boss_coins.specs.declared.boss.Boss.{Boss}
 use Rattle.helper_coins.specs.Helpers.{share_step, rest_step, flush_step, arrive_step}
@@ -25,9 +22,9 @@ pub record Item : Type 0 where
   pub work : List ℕ
 
 -- what a step sends goes from the place of its sender to that of its receiver: helpers by their numbers, the boss behind them
-abbrev pub outgoing : Post → List ℕ → List (Sent Item)
-outgoing Nothing work = []
-outgoing (Send m) work = record { sender = slot m.sender.number; receiver = slot m.receiver.number; what = record { mail = m; work = work } } ∷ []
+abbrev pub outgoing : Option Mail → List ℕ → List (Sent Item)
+outgoing None work = []
+outgoing (Some m) work = record { sender = slot m.sender.number; receiver = slot m.receiver.number; what = record { mail = m; work = work } } ∷ []
 
 abbrev pub boss_is : Crew → Boss → Crew
 boss_is x b = record { boss = b; helpers = x.helpers }
@@ -50,9 +47,9 @@ pub data Call : Crew → List (Sent Item) → Crew → Type 0 where
 
 -- Who is at a place takes a message that comes from place s.
 pub data Take : Crew → ℕ → ℕ → Item → List (Sent Item) → Crew → Type 0 where
-  comes : (x : Crew) (s i boss : ℕ) (m : Item) (h : Helper) (p : Post) → i < length x.helpers →
-      arrive_step (helper_at x.helpers i) m.mail.letter m.mail.kind boss ≡ record { helper = h; taking = Took p } →
+  comes : (x : Crew) (s i boss : ℕ) (m : Item) (h : Helper) (p : Option Mail) → i < length x.helpers →
+      arrive_step (helper_at x.helpers i) m.mail.letter m.mail.kind boss ≡ record { helper = h; taking = Ok p } →
       Take x s i m (outgoing p []) (helper_is x i h)
-  returns : (x : Crew) (s room : ℕ) (m : Item) (b : Boss) (p : Post) →
-      receive_step x.boss m.mail.sender m.mail.letter m.mail.kind room ≡ record { boss = b; taking = Took p } →
+  returns : (x : Crew) (s room : ℕ) (m : Item) (b : Boss) (p : Option Mail) →
+      receive_step x.boss m.mail.sender m.mail.letter m.mail.kind room ≡ record { boss = b; taking = Ok p } →
       Take x s 256 m (outgoing p []) (boss_is x b)

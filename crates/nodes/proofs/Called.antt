@@ -1,10 +1,10 @@
 -- What was sent by a step that had a place for it.
-use Rattle.std.proofs.Common.{◌≡◌, ℕ, zero, suc, Bool, true, cond, List, [], ◌∷◌, ◌++◌, length, take, set, vec_items, Vec, sym, refl, ap, ◌∙◌}
+use Rattle.std.proofs.Common.{◌≡◌, ℕ, zero, suc, Bool, true, cond, List, [], ◌∷◌, ◌++◌, length, take, set, vec_items, Vec, sym, refl, ap, ◌∙◌, Option, Ok}
 use Rattle.std.specs.declared.alloc.Global.{Global}
 use Rattle.std.proofs.lemmas.List.{take_at}
 use Rattle.coins.specs.declared.ids.NodeId.{NodeId}
 use Rattle.coins.specs.declared.mail.Outcome.{Outcome}
-use Rattle.coins.specs.declared.mail.Post.{Post}
+use Rattle.coins.specs.declared.mail.Mail.{Mail}
 use Rattle.coins.specs.declared.work.Work.{Work}
 use Rattle.coins.specs.Works.{no_work}
 use Rattle.lines.specs.declared.ends.LineEnds.{LineEnds}
@@ -15,14 +15,13 @@ use Rattle.lines.specs.Viewed.{ends_of, can_send}
 use Rattle.nodes.specs.declared.receipt.Receipt.TheVariants.{Took as IsTaken}
 use Rattle.nodes.specs.declared.receipt.Reply.TheVariants.{Answered}
 use Rattle.nodes.specs.Arrivals.{room_to, called, took_from, after_taking}
-use Rattle.coins.specs.declared.mail.Taking.TheVariants.{Took}
 
 -- what `send` leaves: es and os are the ends and what had gone out when it was called
-pub record Sent (me : NodeId) (p : Post) (work : Work) (es es' : List End) (os os' : List Packet) : Type 0 where
+pub record Sent (me : NodeId) (p : Option Mail) (work : Work) (es es' : List End) (os os' : List Packet) : Type 0 where
   pub ends : es' ≡ kept_for p work es
   pub out : os' ≡ os ++ out_for me p work es
 
-pub sent : (r : Bool) (me me' : NodeId) (p : Post) (work work' : Work) (ends : LineEnds) (out : Vec Packet Global) (es es' : List End) (os os' : List Packet) →
+pub sent : (r : Bool) (me me' : NodeId) (p : Option Mail) (work work' : Work) (ends : LineEnds) (out : Vec Packet Global) (es es' : List End) (os os' : List Packet) →
     can_send p ends out ≡ true → me' ≡ me → work' ≡ work → ends_of ends ≡ es → vec_items out ≡ os → r ≡ can_send p ends out →
     es' ≡ cond r (kept_for p work' (ends_of ends)) (ends_of ends) → os' ≡ cond r (vec_items out ++ out_for me' p work' (ends_of ends)) (vec_items out) →
     Sent me p work es es' os os'
@@ -41,8 +40,8 @@ pub called_so : {S : Type 0} (me : NodeId) (es es' : List End) (os os' : List Pa
 called_so me es es' os os' work s o h = λ i. record { node = record { state = s; ends = sym h.ends i }; out = sym h.out i; reply = Answered o.answer }
 
 -- and so has what came: it was answered for first
-pub took_so : {S : Type 0} (me peer : NodeId) (n : ℕ) (es es' : List End) (os os' : List Packet) (s : S) (p : Post) → Sent me p no_work (took_from es peer n) es' (os ++ answer_of me peer n ∷ []) os' →
-    after_taking me peer n es os s (Took p) ≡ record { node = record { state = s; ends = es' }; out = os'; receipt = IsTaken }
+pub took_so : {S : Type 0} (me peer : NodeId) (n : ℕ) (es es' : List End) (os os' : List Packet) (s : S) (p : Option Mail) → Sent me p no_work (took_from es peer n) es' (os ++ answer_of me peer n ∷ []) os' →
+    after_taking me peer n es os s (Ok p) ≡ record { node = record { state = s; ends = es' }; out = os'; receipt = IsTaken }
 took_so me peer n es es' os os' s p h = λ i. record { node = record { state = s; ends = sym h.ends i }; out = sym h.out i; receipt = IsTaken }
 
 -- what went out for want of memory is taken back

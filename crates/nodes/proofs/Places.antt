@@ -1,5 +1,5 @@
 -- What a step sends has a place: steps send only where there is one.
-use Rattle.std.proofs.Common.{◌≡◌, ℕ, ◌+◌, ◌<◌, Bool, true, ◌&&◌, ◌||◌, eqb, ltb, leb, get_or, vec_len, vec_capacity, Vec, refl, subst, arith}
+use Rattle.std.proofs.Common.{◌≡◌, ℕ, ◌+◌, ◌<◌, Bool, true, ◌&&◌, ◌||◌, eqb, ltb, leb, get_or, vec_len, vec_capacity, Vec, refl, subst, arith, Ok, Err}
 use Rattle.std.specs.declared.alloc.Global.{Global}
 use Rattle.std.proofs.lemmas.Bool.Decides.{nat_tests}
 use Rattle.std.proofs.lemmas.Bool.{eqb-false}
@@ -7,8 +7,8 @@ use Rattle.coins.specs.declared.ids.LetterId.{LetterId}
 use Rattle.coins.specs.declared.ids.NodeId.{NodeId}
 use Rattle.coins.specs.declared.mail.Kind.{Kind}
 use Rattle.coins.specs.declared.mail.Kind.TheVariants.{Work, More, Back, NoMore, Ask}
-use Rattle.coins.specs.declared.mail.Taking.{Taking}
-use Rattle.coins.specs.declared.mail.Taking.TheVariants.{Took, Later, Refused}
+use Rattle.coins.specs.Mails.{Taking}
+use Rattle.coins.specs.declared.mail.Untaken.TheVariants.{Later, Refused}
 use Rattle.coins.specs.Limits.{grant, limit}
 use Rattle.coins.specs.Letters.{seek, place}
 use Rattle.coins.proofs.Tests.{by_test}
@@ -25,9 +25,9 @@ some_place a b c x y z = rw (x, y, z)
 
 -- what is sent for a message that is taken
 abbrev pub Fit : LineEnds → Vec Packet Global → Taking → Type 0
-Fit ends out (Took p) = can_send p ends out ≡ true
-Fit ends out Later = Unit {0}
-Fit ends out (Refused why) = Unit {0}
+Fit ends out (Ok p) = can_send p ends out ≡ true
+Fit ends out (Err Later) = Unit {0}
+Fit ends out (Err (Refused why)) = Unit {0}
 
 -- to: a peer towards whom there are so many places, with memory made ready
 module _ (ends : LineEnds) (out : Vec Packet Global) (to : NodeId) (room : ℕ) (r : room ≡ room_to (ends_of ends) to) (q : ready ends (slot to.number) ≡ true) (l : vec_len out < vec_capacity out) where

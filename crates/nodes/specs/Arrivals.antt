@@ -1,12 +1,12 @@
 -- A node: its state in the protocol above, and its ends of lines. What calls and arrivals do to the lines is the same
 -- for boss and helper, whatever their states are.
-use Rattle.std.specs.Prelude.{ℕ, List, [], ◌∷◌, ◌++◌, slice_set}
+use Rattle.std.specs.Prelude.{ℕ, List, [], ◌∷◌, ◌++◌, slice_set, Ok, Err}
 use Rattle.coins.specs.declared.ids.LetterId.{LetterId}
 use Rattle.coins.specs.declared.ids.NodeId.{NodeId}
 use Rattle.coins.specs.declared.mail.Kind.{Kind}
 use Rattle.coins.specs.declared.mail.Outcome.{Outcome}
-use Rattle.coins.specs.declared.mail.Taking.{Taking}
-use Rattle.coins.specs.declared.mail.Taking.TheVariants.{Took, Later, Refused}
+use Rattle.coins.specs.Mails.{Taking}
+use Rattle.coins.specs.declared.mail.Untaken.TheVariants.{Later, Refused}
 use Rattle.coins.specs.declared.work.Work.{Work}
 use Rattle.coins.specs.Works.{no_work}
 use Rattle.lines.specs.declared.heard.Heard.{Heard}
@@ -59,14 +59,14 @@ took_from es peer n = slice_set es (slot peer.number) (taking (end_at es (slot p
 -- The next message of a line, by what the protocol above made of it: it is taken, answered for, and what is sent for
 -- it goes out behind the answer; or nothing of the line changes.
 abbrev pub after_taking : {S : Type 0} → NodeId → NodeId → ℕ → List End → List Packet → S → Taking → Received S
-after_taking me peer n es out s (Took p) =
+after_taking me peer n es out s (Ok p) =
     record {
       node = record { state = s; ends = kept_for p no_work (took_from es peer n) };
       out = (out ++ answer_of me peer n ∷ []) ++ out_for me p no_work (took_from es peer n);
       receipt = IsTaken;
     }
-after_taking me peer n es out s Later = record { node = record { state = s; ends = es }; out = out; receipt = IsLater }
-after_taking me peer n es out s (Refused why) = record { node = record { state = s; ends = es }; out = out; receipt = Turned why }
+after_taking me peer n es out s (Err Later) = record { node = record { state = s; ends = es }; out = out; receipt = IsLater }
+after_taking me peer n es out s (Err (Refused why)) = record { node = record { state = s; ends = es }; out = out; receipt = Turned why }
 
 abbrev pub after : {S : Type 0} → NodeId → NodeId → ℕ → List End → List Packet → Made S → Received S
 after me peer n es out t = after_taking me peer n es out t.state t.taking

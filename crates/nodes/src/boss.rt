@@ -10,7 +10,7 @@ use crate::receipt::{Receipt, Reply};
 use boss_coins::boss::Boss;
 use coins::answer::Answer;
 use coins::ids::{LetterId, NodeId};
-use coins::mail::{Kind, Taking};
+use coins::mail::{Kind, Mail, Untaken};
 use coins::work::Work;
 use lines::ends::LineEnds;
 use lines::heard::Heard;
@@ -87,15 +87,22 @@ impl BossNode {
         if !self.ends.reserve(peer) {
             return Receipt::NoMemory;
         }
-        match self.boss.arrive(peer, letter, kind, self.ends.room(peer)) {
-            Taking::Took(post) => {
+        let me = NodeId::boss();
+        let mail = Mail {
+            sender: peer,
+            receiver: me,
+            letter,
+            kind,
+        };
+        match self.boss.arrive(mail, self.ends.room(peer)) {
+            Ok(post) => {
                 self.ends.take(peer, number.number);
-                out.push_reserved(answer_for(NodeId::boss(), peer, number.number));
-                let _ = self.ends.send(NodeId::boss(), post, Work::none(), out);
+                out.push_reserved(answer_for(me, peer, number.number));
+                let _ = self.ends.send(me, post, Work::none(), out);
                 Receipt::Took
             }
-            Taking::Later => Receipt::Later,
-            Taking::Refused(why) => Receipt::Refused(why),
+            Err(Untaken::Later) => Receipt::Later,
+            Err(Untaken::Refused(why)) => Receipt::Refused(why),
         }
     }
 

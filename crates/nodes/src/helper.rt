@@ -9,7 +9,7 @@ ghost use Rattle.nodes.specs.HelperViewed.{helper_at};
 use crate::receipt::{Receipt, Reply};
 use coins::answer::Answer;
 use coins::ids::{LetterId, NodeId};
-use coins::mail::{Kind, Taking};
+use coins::mail::{Kind, Mail, Untaken};
 use coins::work::Work;
 use helper_coins::helper::Helper;
 use lines::ends::LineEnds;
@@ -108,15 +108,21 @@ impl HelperNode {
         }
         let boss = self.ends.room(NodeId::boss());
         let me = self.helper.id();
-        match self.helper.arrive(letter, kind, boss) {
-            Taking::Took(post) => {
+        let mail = Mail {
+            sender: peer,
+            receiver: me,
+            letter,
+            kind,
+        };
+        match self.helper.arrive(mail, boss) {
+            Ok(post) => {
                 self.ends.take(peer, number.number);
                 out.push_reserved(answer_for(me, peer, number.number));
                 let _ = self.ends.send(me, post, Work::none(), out);
                 Receipt::Took
             }
-            Taking::Later => Receipt::Later,
-            Taking::Refused(why) => Receipt::Refused(why),
+            Err(Untaken::Later) => Receipt::Later,
+            Err(Untaken::Refused(why)) => Receipt::Refused(why),
         }
     }
 
