@@ -1,3 +1,3 @@
 pub mod Seeks
-pub mod Bytes
+pub mod Filling
 pub mod Tests

@@ -1,6 +1,6 @@
 pub mod Numbers
+pub mod Putting
 pub mod Parts
-pub mod Framing
 pub mod Lengths
 pub mod Reading
 pub mod Writing
