@@ -1,6 +1,5 @@
 pub mod Numbers
 pub mod Putting
-pub mod Parts
 pub mod Lengths
 pub mod Reading
 pub mod Writing

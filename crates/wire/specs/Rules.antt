@@ -1,5 +1,5 @@
 -- Which messages can be.
-use Rattle.std.specs.Prelude.{◌≡◌, ℕ, ◌^◌, ◌<◌, ◌≤◌, Bool, true, false, not, ◌&&◌, ◌||◌, List, [], length, All, ◌==◌, nat_le, nat_lt}
+use Rattle.std.specs.Prelude.{◌≡◌, ℕ, ◌^◌, ◌<◌, ◌≤◌, Bool, true, false, not, ◌&&◌, List, [], length, All, ◌==◌, nat_lt}
 use Rattle.coins.specs.Nodes.{is_helper, is_boss, is_node}
 use Rattle.coins.specs.declared.mail.Kind.TheVariants.{Work, More, Back, NoMore, Ask}
 use Rattle.wire.specs.declared.message.Body.{Body}

@@ -81,8 +81,10 @@ fn back(coins: u64) -> Kind
 fn work(bytes: &[u8]) -> &[u8]
     ensures { result.now ≡ drop 27 bytes.now }
 {
-    let start = bytes.len().min(WITH_LENGTH);
-    &bytes[start..]
+    match bytes.get(WITH_LENGTH..) {
+        Some(work) => work,
+        None => &[],
+    }
 }
 
 // Whether such a body goes that way.
