@@ -4,7 +4,7 @@ use Rattle.coins.specs.declared.ids.NodeId.{NodeId}
 use Rattle.coins.specs.declared.mail.Post.{Post}
 use Rattle.coins.specs.declared.mail.Post.TheVariants.{Nothing, Send}
 use Rattle.coins.specs.declared.parcel.Parcel.{Parcel}
-use Rattle.coins.specs.declared.work.Work.{Work}
+use Rattle.coins.specs.Works.{Work}
 use Rattle.coins.specs.Limits.{boss_number}
 use Rattle.coins.specs.Parcels.{parcel_of}
 use Rattle.wire.specs.Messages.{numbered_msg, taken_msg}

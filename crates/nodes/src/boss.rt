@@ -91,7 +91,7 @@ impl BossNode {
             Taking::Took(post) => {
                 self.ends.take(peer, number.number);
                 out.push_reserved(answer_for(NodeId::boss(), peer, number.number));
-                let _ = self.ends.send(NodeId::boss(), post, Work::none(), out);
+                let _ = self.ends.send(NodeId::boss(), post, Work::empty(), out);
                 Receipt::Took
             }
             Taking::Later => Receipt::Later,

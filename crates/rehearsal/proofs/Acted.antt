@@ -10,8 +10,7 @@ use Rattle.stage.specs.declared.command.Reply.{Reply}
 use Rattle.stage.specs.declared.command.Reply.TheVariants.{Answered}
 use Rattle.stage.specs.Plays.{Out, plays, lacks, Outcome}
 use Rattle.stage.proofs.Played.{answered_as}
-use Rattle.coins.specs.declared.work.Work.{Work}
-use Rattle.coins.specs.Works.{no_work}
+use Rattle.coins.specs.Works.{Work, no_work}
 use Rattle.stage.specs.Scenes.{Scene, opening, mails, world}
 use Rattle.rehearsal.specs.Steps.{after_pass, follows}
 

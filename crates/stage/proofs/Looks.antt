@@ -10,7 +10,7 @@ use Rattle.stage.specs.declared.parcel.Parcel.{Parcel}
 use Rattle.stage.specs.Scenes.{mails, room, seek_helper, seek_holder}
 
 abbrev pub no_parcel : Parcel
-no_parcel = record { mail = no_mail; work = record { len = 0; bytes = [] } }
+no_parcel = record { mail = no_mail; work = [] }
 
 abbrev pub parcel_at : List Parcel → ℕ → Parcel
 parcel_at ps k = get_or ps k no_parcel

@@ -19,12 +19,11 @@ use Rattle.helper_coins.specs.Helpers.{share_step, rest_step, flush_step, arrive
 use Rattle.boss_coins.specs.Bosses.{give_step, say_step, receive_step}
 use Rattle.runs.specs.System.{World, helper_at, mail_at, head, Step}
 use Rattle.runs.specs.Letter.{view, is_done, Quiet, holding_at}
-use Rattle.coins.specs.declared.work.Work.{Work}
 use Rattle.stage.specs.declared.command.Command.{Command}
 use Rattle.stage.specs.declared.command.Command.TheVariants.{Give, Share, Rest, Say, Pass, Flush}
 use Rattle.stage.specs.declared.command.Reply.{Reply}
 use Rattle.stage.specs.declared.command.Reply.TheVariants.{Answered, NoMemory}
-use Rattle.coins.specs.Works.{no_work}
+use Rattle.coins.specs.Works.{Work, no_work}
 use Rattle.stage.specs.Scenes.{Scene, mails, sent_on, room, seek_helper, seek_holder}
 
 pub record Out : Type 0 where

@@ -12,9 +12,8 @@ use Rattle.helper_coins.specs.Helpers.{seek_waiting}
 use Rattle.boss_coins.specs.Bosses.{new_boss}
 use Rattle.runs.specs.System.{World, crew, on_line}
 use Rattle.runs.specs.Letter.{mailed, delayed}
-use Rattle.coins.specs.declared.work.Work.{Work}
 use Rattle.stage.specs.declared.parcel.Parcel.{Parcel}
-use Rattle.coins.specs.Works.{no_work}
+use Rattle.coins.specs.Works.{Work, no_work}
 
 pub record Scene : Type 0 where
   pub boss : Boss

@@ -67,7 +67,7 @@ impl Stage {
         ensures calmed { no_memory result ≡ false → Calmed (world (scene self.old.table)) (world (scene self.new.table)) }
     {
         while let Some(command) = self.table.next() {
-            if let Reply::NoMemory = self.play(command, Work::none()) {
+            if let Reply::NoMemory = self.play(command, Work::empty()) {
                 return Reply::NoMemory;
             }
         }

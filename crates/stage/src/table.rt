@@ -104,7 +104,7 @@ impl Table {
             return Reply::NoMemory;
         };
         let done = self.helpers[i].rest(letter, boss);
-        self.send(done.post, Work::none());
+        self.send(done.post, Work::empty());
         Reply::Answered(done.answer)
     }
 
@@ -120,7 +120,7 @@ impl Table {
             return Reply::NoMemory;
         };
         let post = self.helpers[i].flush(boss);
-        self.send(post, Work::none());
+        self.send(post, Work::empty());
         Reply::Answered(Answer::Fine)
     }
 
@@ -132,7 +132,7 @@ impl Table {
         match taking {
             Taking::Took(post) => {
                 let _ = self.post.remove(k);
-                self.send(post, Work::none());
+                self.send(post, Work::empty());
                 Reply::Answered(Answer::Fine)
             }
             Taking::Later => refused(Refusal::NoPlace),

@@ -1,8 +1,7 @@
 use Rattle.std.proofs.Common.{sym, ap, subst}
 use Rattle.runs.specs.System.{still}
 use Rattle.runs.proofs.Theorems.{promised_of}
-use Rattle.coins.specs.declared.work.Work.{Work}
-use Rattle.coins.specs.Works.{no_work}
+use Rattle.coins.specs.Works.{Work, no_work}
 use Rattle.stage.specs.Scenes.{world}
 use Rattle.stage.specs.Plays.{plays, lacks, no_memory, Outcome, Lets}
 use Rattle.stage.specs.Tables.{scene}
