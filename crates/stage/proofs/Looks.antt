@@ -9,32 +9,26 @@ use Rattle.runs.specs.System.{crew, no_helper, head, on_line, no_mail, mail_at, 
 use Rattle.stage.specs.declared.parcel.Parcel.{Parcel}
 use Rattle.stage.specs.Scenes.{mails, room, seek_helper, seek_holder}
 
-abbrev pub no_parcel : Parcel
-no_parcel = record { mail = no_mail; work = [] }
-
-abbrev pub parcel_at : List Parcel → ℕ → Parcel
-parcel_at ps k = get_or ps k no_parcel
-
 module _ (s r : NodeId) (ps : List Parcel) (k : ℕ) where
-  pub head_here : k < length ps → on_line s r (parcel_at ps k).mail ≡ true → head (mails (drop k ps)) s r ≡ 0
+  pub head_here : (p : Parcel) → p ≡ get_or ps k p → k < length ps → on_line s r p.mail ≡ true → head (mails (drop k ps)) s r ≡ 0
   unfolding mails head
-  head_here l e = at_drop_more (λ (qs : List Parcel). head (mails qs) s r) ps k no_parcel l ∙ rw e
+  head_here p y l e = at_drop_more (λ (qs : List Parcel). head (mails qs) s r) ps k p l ∙ rw (← y, e)
 
-  pub head_more : k < length ps → on_line s r (parcel_at ps k).mail ≡ false → head (mails (drop k ps)) s r ≡ suc (head (mails (drop (k + 1) ps)) s r)
+  pub head_more : (p : Parcel) → p ≡ get_or ps k p → k < length ps → on_line s r p.mail ≡ false → head (mails (drop k ps)) s r ≡ suc (head (mails (drop (k + 1) ps)) s r)
   unfolding mails head
-  head_more l e = at_drop_more (λ (qs : List Parcel). head (mails qs) s r) ps k no_parcel l ∙ rw e
+  head_more p y l e = at_drop_more (λ (qs : List Parcel). head (mails qs) s r) ps k p l ∙ rw (← y, e)
 
   pub head_none : length ps ≤ k → head (mails (drop k ps)) s r ≡ 0
   unfolding mails head
   head_none l = at_drop_all (λ (qs : List Parcel). head (mails qs) s r) ps k l
 
-  pub room_more : k < length ps → on_line s r (parcel_at ps k).mail ≡ true → room (take (k + 1) ps) s r ≡ room (take k ps) s r - 1
+  pub room_more : (p : Parcel) → p ≡ get_or ps k p → k < length ps → on_line s r p.mail ≡ true → room (take (k + 1) ps) s r ≡ room (take k ps) s r - 1
   unfolding room
-  room_more l e = omega (arith, count_by_more_yes (λ (p : Parcel). on_line s r p.mail) ps k no_parcel l e)
+  room_more p y l e = omega (arith, count_by_more_yes (λ (q : Parcel). on_line s r q.mail) ps k p l (rw (← y) e))
 
-  pub room_same : k < length ps → on_line s r (parcel_at ps k).mail ≡ false → room (take (k + 1) ps) s r ≡ room (take k ps) s r
+  pub room_same : (p : Parcel) → p ≡ get_or ps k p → k < length ps → on_line s r p.mail ≡ false → room (take (k + 1) ps) s r ≡ room (take k ps) s r
   unfolding room
-  room_same l e = omega (arith, count_by_more_no (λ (p : Parcel). on_line s r p.mail) ps k no_parcel l e)
+  room_same p y l e = omega (arith, count_by_more_no (λ (q : Parcel). on_line s r q.mail) ps k p l (rw (← y) e))
 
   pub room_all : length ps ≤ k → room (take k ps) s r ≡ room ps s r
   room_all l = ap (λ (qs : List Parcel). room qs s r) (take_all k ps l)
@@ -44,13 +38,13 @@ unfolding room
 room_none s r ps = refl
 
 module _ (n : ℕ) (ps : List Parcel) (k : ℕ) where
-  pub helper_here : k < length ps → ltb (parcel_at ps k).mail.receiver.number n ≡ true → seek_helper (drop k ps) n ≡ 0
+  pub helper_here : (p : Parcel) → p ≡ get_or ps k p → k < length ps → ltb p.mail.receiver.number n ≡ true → seek_helper (drop k ps) n ≡ 0
   unfolding seek_helper
-  helper_here l e = at_drop_more (λ (qs : List Parcel). seek_helper qs n) ps k no_parcel l ∙ rw e
+  helper_here p y l e = at_drop_more (λ (qs : List Parcel). seek_helper qs n) ps k p l ∙ rw (← y, e)
 
-  pub helper_more : k < length ps → ltb (parcel_at ps k).mail.receiver.number n ≡ false → seek_helper (drop k ps) n ≡ suc (seek_helper (drop (k + 1) ps) n)
+  pub helper_more : (p : Parcel) → p ≡ get_or ps k p → k < length ps → ltb p.mail.receiver.number n ≡ false → seek_helper (drop k ps) n ≡ suc (seek_helper (drop (k + 1) ps) n)
   unfolding seek_helper
-  helper_more l e = at_drop_more (λ (qs : List Parcel). seek_helper qs n) ps k no_parcel l ∙ rw e
+  helper_more p y l e = at_drop_more (λ (qs : List Parcel). seek_helper qs n) ps k p l ∙ rw (← y, e)
 
   pub helper_none : length ps ≤ k → seek_helper (drop k ps) n ≡ 0
   unfolding seek_helper

@@ -8,4 +8,4 @@ pub returns-in_err-answered : goal.returns-in_err-answered
 returns-in_err-answered c = record { does = search rules; goes = runs_on _ _ _ still c.play.ensures.goes }
 
 pub returns : goal.returns
-returns c = record { does = flushed _ _ c.args.by _ _ _ c.play.ensures.does c.in_ok-answered.ensures c.none.ensures; goes = runs_on _ _ _ still c.play.ensures.goes }
+returns c = record { does = flushed _ _ c.args.by _ _ _ c.play.ensures.does c.in_ok-answered.ensures c.empty.ensures; goes = runs_on _ _ _ still c.play.ensures.goes }

@@ -14,7 +14,7 @@ played : (c : goal.In_default-play) →
     Outcome (lacks c.in-Some.command c.play.result) (plays (scene c.loop-command.self.table) c.in-Some.command no_work) (scene c.loop-command.self.table) (scene c.play.new.self.table) c.play.result
 played c =
     subst (λ (w : Work). Outcome (lacks c.in-Some.command c.play.result) (plays (scene c.loop-command.self.table) c.in-Some.command w) (scene c.loop-command.self.table) (scene c.play.new.self.table) c.play.result)
-    c.none.ensures c.play.ensures.does
+    c.empty.ensures c.play.ensures.does
 
 pub loop-command-init : goal.loop-command-init
 loop-command-init c = (Lets.still, still, λ letter pos q. q)
