@@ -72,12 +72,17 @@ high_first_bytes zero n = refl
 high_first_bytes (suc zero) n = rw (div-one n)
 high_first_bytes (suc (suc w)) n = ap (λ xs. n / 256 ^ suc w % 256 ∷ xs) (high_first_bytes (suc w) n)
 
--- a part, from some place in it on
-number_at_part : (w k : ℕ) (bs : List ℕ) (at i : ℕ) → i + w ≤ k → number_at w (take k (drop at bs)) i ≡ number_at w bs (at + i)
+-- what stands before a place does not matter
+pub number_at_drop : (w : ℕ) (bs : List ℕ) (at i : ℕ) → number_at w (drop at bs) i ≡ number_at w bs (at + i)
 unfolding number_at
-number_at_part zero k bs at i h = refl
-number_at_part (suc w) k bs at i h =
-    rw (get_or-take k (drop at bs) i 0 (omega arith), get_or-drop at bs i 0, number_at_part w k bs at (i + 1) (omega arith), add_assoc at i 1)
+number_at_drop zero bs at i = refl
+number_at_drop (suc w) bs at i = rw (get_or-drop at bs i 0, number_at_drop w bs at (i + 1), add_assoc at i 1)
+
+-- nor what stands behind the number
+number_at_take : (w k : ℕ) (bs : List ℕ) (i : ℕ) → i + w ≤ k → number_at w (take k bs) i ≡ number_at w bs i
+unfolding number_at
+number_at_take zero k bs i h = refl
+number_at_take (suc w) k bs i h = rw (get_or-take k bs i 0 (omega arith), number_at_take w k bs (i + 1) (omega arith))
 
 -- what std reads of bytes is their number
 from_bytes : (w : Width) (bs : List ℕ) → from_be_bytes w bs ≡ number_at (byte_len w) bs 0
@@ -88,7 +93,8 @@ from_bytes w32 bs = simp add_assoc (omega arith)
 from_bytes w64 bs = simp add_assoc (omega arith)
 from_bytes w128 bs = simp add_assoc (omega arith)
 
--- the number that is read of a part
-pub number_of_part : (w : Width) (bs : List ℕ) (at : ℕ) {part : List ℕ} {n : ℕ} → part ≡ take (byte_len w) (drop at bs) → n ≡ from_be_bytes w part → n ≡ number_at (byte_len w) bs at
-number_of_part w bs at {part} p e =
-    e ∙ (from_bytes w part ∙ (ap (λ xs. number_at (byte_len w) xs 0) p ∙ (number_at_part (byte_len w) (byte_len w) bs at 0 (omega arith) ∙ ap (number_at (byte_len w) bs) (add-zero at))))
+-- the number that is read of the first bytes from a place on
+pub number_of_part : (w : Width) (bs : List ℕ) (at : ℕ) {rest part : List ℕ} {n : ℕ} → rest ≡ drop at bs → part ≡ take (byte_len w) rest → n ≡ from_be_bytes w part → n ≡ number_at (byte_len w) bs at
+number_of_part w bs at {rest} {part} r p e =
+    e ∙ (from_bytes w part ∙ (ap (λ xs. number_at (byte_len w) xs 0) p ∙ (number_at_take (byte_len w) (byte_len w) rest 0 (omega arith)
+    ∙ (ap (λ xs. number_at (byte_len w) xs 0) r ∙ (number_at_drop (byte_len w) bs at 0 ∙ ap (number_at (byte_len w) bs) (add-zero at))))))

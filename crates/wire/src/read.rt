@@ -1,68 +1,43 @@
 // A message from its bytes.
-ghost use Rattle.std.specs.Prelude.{◌≡◌, ◌+◌, ◌≤◌, true, length, take, drop, Some, None, MatchOption, slice_index};
+ghost use Rattle.std.specs.Prelude.{◌≡◌, ◌≢◌, true, false, length, drop, Some, None, MatchOption};
 ghost use Rattle.wire.specs.Numbers.{number_at};
 ghost use Rattle.wire.specs.Messages.{view};
 ghost use Rattle.wire.specs.Rules.{goes, is_paid};
-ghost use Rattle.wire.specs.Bytes.{is_whole, back_of, body_of, message_at, is_fine, decode};
+ghost use Rattle.wire.specs.Bytes.{ends, back_of, body_of, is_fine, decode};
 
 use crate::message::{Body, Message, SequenceNumber};
 use coins::ids::{LetterId, NodeId};
 use coins::mail::Kind;
 use coins::work::LONGEST;
 
-// A message has this many bytes with its kind, with its coins, and with the length of its work.
-const HEAD: usize = 17;
-
-const WITH_COINS: usize = 25;
-
-const WITH_LENGTH: usize = 27;
-
-// The bytes at a place, as many as are wanted.
-fn part<const N: usize>(bytes: &[u8], at: usize) -> [u8; N]
-    requires { at + N ≤ length bytes.now }
-    ensures { result ≡ take N (drop at bytes.now) }
+// The coins that all of these bytes are.
+fn coins(rest: &[u8]) -> Option<u64>
+    ensures { MatchOption result (length rest.now ≢ 8) (λ c. (length rest.now ≡ 8) × (c ≡ number_at 8 rest.now 0)) }
 {
-    let mut part = [0; N];
-    part.copy_from_slice(&bytes[at..at + N]);
-    part
+    let (coins, rest) = rest.split_first_chunk::<8>()?;
+    rest.is_empty().then_some(u64::from_be_bytes(*coins))
 }
 
-// Whether these are as many bytes as a message has that begins so, of a kind that there is.
-fn is_whole(bytes: &[u8]) -> bool
-    ensures { result ≡ is_whole bytes.now }
+// What follows the kind says: the body, and the bytes of work that end the message.
+fn body(kind: u8, rest: &[u8]) -> Option<(Body, &[u8])>
+    ensures { MatchOption result (ends kind rest.now ≡ false) (λ p. (ends kind rest.now ≡ true) × (p.0 ≡ body_of kind (number_at 8 rest.now 0)) × (p.1.now ≡ drop 10 rest.now)) }
 {
-    let n = bytes.len();
-    if n < HEAD {
-        return false;
-    }
-    match bytes[16] {
-        1 => n >= WITH_LENGTH
-            && n == WITH_LENGTH + u16::from_be_bytes(part(bytes, WITH_COINS)) as usize,
-        2 | 3 => n == WITH_COINS,
-        4 | 5 => n == HEAD,
-        _ => false,
-    }
-}
-
-// The coins that end the message, or that the length of its work follows.
-fn coins(bytes: &[u8]) -> u64
-    requires { 25 ≤ length bytes.now }
-    ensures { result ≡ number_at 8 bytes.now 17 }
-{
-    u64::from_be_bytes(part(bytes, HEAD))
-}
-
-// The body of a whole message.
-fn body(bytes: &[u8]) -> Body
-    requires { is_whole bytes.now ≡ true }
-    ensures { result ≡ body_of (slice_index bytes.now 16) (number_at 8 bytes.now 17) }
-{
-    match bytes[16] {
-        1 => Body::Numbered(Kind::Work(coins(bytes))),
-        2 => Body::Numbered(Kind::More(coins(bytes))),
-        3 => Body::Numbered(back(coins(bytes))),
-        4 => Body::Numbered(Kind::Ask),
-        _ => Body::Taken,
+    match kind {
+        1 => {
+            let (coins, rest) = rest.split_first_chunk::<8>()?;
+            let (count, work) = rest.split_first_chunk::<2>()?;
+            let coins = u64::from_be_bytes(*coins);
+            if work.len() == u16::from_be_bytes(*count) as usize {
+                Some((Body::Numbered(Kind::Work(coins)), work))
+            } else {
+                None
+            }
+        }
+        2 => Some((Body::Numbered(Kind::More(coins(rest)?)), &[])),
+        3 => Some((Body::Numbered(back(coins(rest)?)), &[])),
+        4 if rest.is_empty() => Some((Body::Numbered(Kind::Ask), rest)),
+        5 if rest.is_empty() => Some((Body::Taken, rest)),
+        _ => None,
     }
 }
 
@@ -74,16 +49,6 @@ fn back(coins: u64) -> Kind
         Kind::NoMore
     } else {
         Kind::Back(coins)
-    }
-}
-
-// The bytes of the work: none where the message ends before them.
-fn work(bytes: &[u8]) -> &[u8]
-    ensures { result.now ≡ drop 27 bytes.now }
-{
-    match bytes.get(WITH_LENGTH..) {
-        Some(work) => work,
-        None => &[],
     }
 }
 
@@ -124,37 +89,31 @@ fn is_fine(message: &Message<'_>) -> bool
         && message.work.len() <= LONGEST
 }
 
-// What whole bytes say.
-fn message(bytes: &[u8]) -> Message<'_>
-    requires { is_whole bytes.now ≡ true }
-    ensures { view result ≡ message_at bytes.now }
-{
-    Message {
-        letter: LetterId {
-            number: u32::from_be_bytes(part(bytes, 0)),
-        },
-        sender: NodeId {
-            number: u16::from_be_bytes(part(bytes, 4)),
-        },
-        receiver: NodeId {
-            number: u16::from_be_bytes(part(bytes, 6)),
-        },
-        number: SequenceNumber {
-            number: u64::from_be_bytes(part(bytes, 8)),
-        },
-        body: body(bytes),
-        work: work(bytes),
-    }
-}
-
 // The message that these bytes are, if they are exactly one that can be.
-#[tactic(auto, unfolding(crate::specs::Bytes::decode))]
 pub fn read(bytes: &[u8]) -> Option<Message<'_>>
     ensures { MatchOption result (decode bytes.now ≡ None) (λ m. decode bytes.now ≡ Some (view m)) }
 {
-    if !is_whole(bytes) {
-        return None;
-    }
-    let message = message(bytes);
+    let (letter, rest) = bytes.split_first_chunk::<4>()?;
+    let (sender, rest) = rest.split_first_chunk::<2>()?;
+    let (receiver, rest) = rest.split_first_chunk::<2>()?;
+    let (number, rest) = rest.split_first_chunk::<8>()?;
+    let (kind, rest) = rest.split_first()?;
+    let (body, work) = body(*kind, rest)?;
+    let message = Message {
+        letter: LetterId {
+            number: u32::from_be_bytes(*letter),
+        },
+        sender: NodeId {
+            number: u16::from_be_bytes(*sender),
+        },
+        receiver: NodeId {
+            number: u16::from_be_bytes(*receiver),
+        },
+        number: SequenceNumber {
+            number: u64::from_be_bytes(*number),
+        },
+        body,
+        work,
+    };
     is_fine(&message).then_some(message)
 }
