@@ -1,2 +1,2 @@
-pub mod Bytes
+pub mod Filling
 pub mod Tests

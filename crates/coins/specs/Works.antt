@@ -1,10 +1,14 @@
 -- The bytes of a piece of work.
-use Rattle.std.specs.Prelude.{ℕ, min, List, take, replicate}
-use Rattle.coins.specs.declared.work.Work.{Work}
+use Rattle.std.specs.Prelude.{ℕ, List, []}
+use Rattle.coins.specs.declared.bytes.Bytes.{Bytes}
+
+-- at most 256 bytes: clauses see the list of them
+abbrev pub Work : Type 0
+Work = Bytes 256
 
 abbrev pub no_work : Work
-no_work = record { len = 0; bytes = replicate 256 0 }
+no_work = []
 
--- the bytes that it has, at most 256
+-- the bytes that it has
 abbrev pub bytes_of : Work → List ℕ
-bytes_of w = take (min w.len 256) w.bytes
+bytes_of w = w

@@ -1,6 +1,7 @@
 // The numbers that name things, each with a type of its own.
 ghost use Rattle.std.specs.Prelude.{◌≡◌};
 ghost use Rattle.coins.specs.Limits.{boss_number};
+ghost use Rattle.coins.specs.Nodes.{is_helper, is_boss, is_node};
 
 // A letter: one job. Letters are numbered from 1, and a number is never used again.
 #[derive(Clone, Copy, Debug, PartialEq, Eq)]
@@ -22,5 +23,24 @@ impl NodeId {
         ensures { result ≡ record { number = boss_number } }
     {
         NodeId { number: BOSS }
+    }
+
+    pub fn is_helper(self) -> bool
+        ensures { result ≡ is_helper self.number }
+    {
+        self.number <= 255
+    }
+
+    pub fn is_boss(self) -> bool
+        ensures { result ≡ is_boss self.number }
+    {
+        self.number == BOSS
+    }
+
+    // Whether there is such a one.
+    pub fn is_node(self) -> bool
+        ensures { result ≡ is_node self.number }
+    {
+        self.is_helper() || self.is_boss()
     }
 }

@@ -2,6 +2,7 @@
 #![tactic(auto)]
 
 pub mod answer;
+pub mod bytes;
 pub mod ids;
 pub mod letters;
 pub mod limits;

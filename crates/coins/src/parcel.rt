@@ -18,7 +18,7 @@ impl Parcel {
     {
         let work = match mail.kind {
             Kind::Work(_) => work,
-            Kind::More(_) | Kind::Back(_) | Kind::NoMore | Kind::Ask => Work::none(),
+            Kind::More(_) | Kind::Back(_) | Kind::NoMore | Kind::Ask => Work::empty(),
         };
         Parcel { mail, work }
     }

@@ -5,7 +5,7 @@ use Rattle.coins.specs.declared.mail.Kind.{Kind}
 use Rattle.coins.specs.declared.mail.Kind.TheVariants.{Work as Works, More, Back, NoMore, Ask}
 use Rattle.coins.specs.declared.mail.Mail.{Mail}
 use Rattle.coins.specs.declared.parcel.Parcel.{Parcel}
-use Rattle.coins.specs.declared.work.Work.{Work}
+use Rattle.coins.specs.Works.{Work}
 use Rattle.coins.specs.Parcels.{bytes_for, parcel_of}
 use Rattle.coins.specs.Mails.{coins_in}
 use Rattle.lines.specs.Fits.{is_bare, fits, all_fit}

@@ -7,10 +7,9 @@ use Rattle.lines.specs.declared.packet.Packet.{Packet}
 use Rattle.lines.specs.declared.end.LineEnd.{LineEnd}
 use Rattle.lines.specs.Ends.{End}
 use Rattle.lines.specs.Viewed.{end_of, ends_in}
-use Rattle.wire.specs.declared.frame.Frame.{Frame}
 use Rattle.wire.specs.Messages.{numbered_msg}
 use Rattle.wire.specs.Bytes.{encode}
-use Rattle.wire.specs.Frames.{framed}
+use Rattle.wire.specs.Frames.{Frame, framed}
 use Rattle.lines.specs.Packets.{packet_of, resent, resent_all, peer_at, Grew}
 
 -- messages behind others: m is the number of the last before
@@ -46,11 +45,11 @@ peers_more s es k d h =
     ∙ ap (λ (qs : List Packet). resent_all s 0 (ends_in (take k es)) ++ qs) (append-nil (resent s (peer_at k) (end_of (get_or es k d)).answered (end_of (get_or es k d)).waiting))
 
 -- one packet more has gone out
-pub frames_more : (was before after : List Packet) (s r : NodeId) (n m : ℕ) (ps : List Parcel) (k : ℕ) (d : Parcel) (f : Frame) → before ≡ was ++ resent s r n (take k ps) → k < length ps → m ≡ suc (n + k) →
-    f ≡ framed (encode (numbered_msg (get_or ps k d) m)) → after ≡ before ++ record { sender = s; receiver = r; frame = f } ∷ [] → after ≡ was ++ resent s r n (take (k + 1) ps)
-frames_more was before after s r n m ps k d f i h e w p =
-    p ∙ ap (λ (x : Frame). before ++ record { sender = s; receiver = r; frame = x } ∷ []) w ∙ ap (λ (xs : List Packet). xs ++ packet_of s r m (get_or ps k d) ∷ []) i
-    ∙ append_assoc was (resent s r n (take k ps)) (packet_of s r m (get_or ps k d) ∷ []) ∙ ap (λ (xs : List Packet). was ++ xs) (sym (resent_more s r n m ps k d h e))
+pub frames_more : (was before after : List Packet) (s r : NodeId) (n m : ℕ) (ps : List Parcel) (k : ℕ) (x : Parcel) (f : Frame) → before ≡ was ++ resent s r n (take k ps) → k < length ps → m ≡ suc (n + k) → x ≡ get_or ps k x →
+    f ≡ framed (encode (numbered_msg x m)) → after ≡ before ++ record { sender = s; receiver = r; frame = f } ∷ [] → after ≡ was ++ resent s r n (take (k + 1) ps)
+frames_more was before after s r n m ps k x f i h e y w p =
+    p ∙ ap (λ (x : Frame). before ++ record { sender = s; receiver = r; frame = x } ∷ []) w ∙ ap (λ (z : Parcel). before ++ packet_of s r m z ∷ []) y ∙ ap (λ (xs : List Packet). xs ++ packet_of s r m (get_or ps k x) ∷ []) i
+    ∙ append_assoc was (resent s r n (take k ps)) (packet_of s r m (get_or ps k x) ∷ []) ∙ ap (λ (xs : List Packet). was ++ xs) (sym (resent_more s r n m ps k x h e))
 
 -- what waits for one peer more, x, has gone out
 pub ends_more : (was before after : List Packet) (s r : NodeId) (es : List LineEnd) (k : ℕ) (x : LineEnd) → before ≡ was ++ resent_all s 0 (ends_in (take k es)) → k < length es → x ≡ get_or es k x → r ≡ peer_at k →

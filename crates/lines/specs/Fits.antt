@@ -1,18 +1,18 @@
 -- What can be written: numbers that fit the bytes that they have.
-use Rattle.std.specs.Prelude.{Bool, true, ◌&&◌, List, [], ◌∷◌, ◌==◌, nat_lt}
+use Rattle.std.specs.Prelude.{Bool, true, ◌&&◌, List, [], ◌∷◌, length, ◌==◌, nat_lt}
 use Rattle.coins.specs.declared.mail.Kind.{Kind}
 use Rattle.coins.specs.declared.mail.Kind.TheVariants.{Work as Works, More, Back, NoMore, Ask}
-use Rattle.coins.specs.declared.work.Work.{Work}
+use Rattle.coins.specs.Works.{Work}
 use Rattle.coins.specs.declared.parcel.Parcel.{Parcel}
 use Rattle.coins.specs.Mails.{coins_in}
 
 -- bytes go with work alone
 abbrev pub is_bare : Kind → Work → Bool
 is_bare (Works c) w = true
-is_bare (More c) w = w.len == 0
-is_bare (Back c) w = w.len == 0
-is_bare NoMore w = w.len == 0
-is_bare Ask w = w.len == 0
+is_bare (More c) w = length w == 0
+is_bare (Back c) w = length w == 0
+is_bare NoMore w = length w == 0
+is_bare Ask w = length w == 0
 
 -- a letter in 4 bytes, sender and receiver in 2, coins in 8
 abbrev pub fits : Parcel → Bool

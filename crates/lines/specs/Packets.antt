@@ -3,7 +3,7 @@ use Rattle.std.specs.Prelude.{◌≡◌, ℕ, suc, cond, List, [], ◌∷◌, �
 use Rattle.coins.specs.declared.ids.NodeId.{NodeId}
 use Rattle.coins.specs.declared.mail.Mail.{Mail}
 use Rattle.coins.specs.declared.parcel.Parcel.{Parcel}
-use Rattle.coins.specs.declared.work.Work.{Work}
+use Rattle.coins.specs.Works.{Work}
 use Rattle.coins.specs.Limits.{boss_number}
 use Rattle.coins.specs.Parcels.{parcel_of}
 use Rattle.wire.specs.Messages.{numbered_msg, taken_msg}

@@ -79,7 +79,7 @@ impl LineEnds {
         let Some(message) = read(bytes) else {
             return Heard::Refused(Refusal::Malformed);
         };
-        if message.sender.number != peer.number || message.receiver.number != me.number {
+        if message.sender != peer || message.receiver != me {
             return Heard::Refused(Refusal::Malformed);
         }
         match message.body {
@@ -135,7 +135,7 @@ impl LineEnds {
         let Some(message) = read(bytes) else {
             return Heard::Refused(Refusal::Malformed);
         };
-        if message.sender.number != peer.number || message.receiver.number != me.number {
+        if message.sender != peer || message.receiver != me {
             return Heard::Refused(Refusal::Malformed);
         }
         self.hear_body(peer, message)

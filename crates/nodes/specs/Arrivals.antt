@@ -7,8 +7,7 @@ use Rattle.coins.specs.declared.mail.Kind.{Kind}
 use Rattle.coins.specs.declared.mail.Outcome.{Outcome}
 use Rattle.coins.specs.Mails.{Taking}
 use Rattle.coins.specs.declared.mail.Untaken.TheVariants.{Later, Refused}
-use Rattle.coins.specs.declared.work.Work.{Work}
-use Rattle.coins.specs.Works.{no_work}
+use Rattle.coins.specs.Works.{Work, no_work}
 use Rattle.lines.specs.declared.heard.Heard.{Heard}
 use Rattle.lines.specs.declared.heard.Heard.TheVariants.{Next, Old, Ahead, Released, Refused as Unheard}
 use Rattle.lines.specs.declared.packet.Packet.{Packet}

@@ -4,7 +4,7 @@ use Rattle.coins.specs.declared.answer.Answer.TheVariants.{Fine}
 use Rattle.coins.specs.declared.ids.LetterId.{LetterId}
 use Rattle.coins.specs.declared.ids.NodeId.{NodeId}
 use Rattle.coins.specs.declared.mail.Kind.{Kind}
-use Rattle.coins.specs.declared.work.Work.{Work}
+use Rattle.coins.specs.Works.{Work}
 use Rattle.coins.specs.Limits.{boss_number}
 use Rattle.boss_coins.specs.declared.boss.Boss.{Boss}
 use Rattle.boss_coins.specs.Bosses.{Called, TookIn, new_boss, give_step, say_step, receive_step}

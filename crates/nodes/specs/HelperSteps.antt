@@ -4,8 +4,7 @@ use Rattle.coins.specs.declared.answer.Answer.TheVariants.{Fine}
 use Rattle.coins.specs.declared.ids.LetterId.{LetterId}
 use Rattle.coins.specs.declared.ids.NodeId.{NodeId}
 use Rattle.coins.specs.declared.mail.Kind.{Kind}
-use Rattle.coins.specs.declared.work.Work.{Work}
-use Rattle.coins.specs.Works.{no_work}
+use Rattle.coins.specs.Works.{Work, no_work}
 use Rattle.helper_coins.specs.declared.helper.Helper.{Helper}
 use Rattle.helper_coins.specs.Helpers.{Called, TookIn, Flushed, new_helper, share_step, rest_step, flush_step, arrive_step}
 use Rattle.lines.specs.declared.packet.Packet.{Packet}

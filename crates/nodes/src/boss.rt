@@ -98,7 +98,7 @@ impl BossNode {
             Ok(post) => {
                 self.ends.take(peer, number.number);
                 out.push_reserved(answer_for(me, peer, number.number));
-                let _ = self.ends.send(me, post, Work::none(), out);
+                let _ = self.ends.send(me, post, Work::empty(), out);
                 Receipt::Took
             }
             Err(Untaken::Later) => Receipt::Later,

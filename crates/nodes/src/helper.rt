@@ -87,7 +87,7 @@ impl HelperNode {
         let boss = self.ends.room(NodeId::boss());
         let me = self.helper.id();
         let done = self.helper.rest(letter, boss);
-        let _ = self.ends.send(me, done.post, Work::none(), out);
+        let _ = self.ends.send(me, done.post, Work::empty(), out);
         Reply::Answered(done.answer)
     }
 
@@ -118,7 +118,7 @@ impl HelperNode {
             Ok(post) => {
                 self.ends.take(peer, number.number);
                 out.push_reserved(answer_for(me, peer, number.number));
-                let _ = self.ends.send(me, post, Work::none(), out);
+                let _ = self.ends.send(me, post, Work::empty(), out);
                 Receipt::Took
             }
             Err(Untaken::Later) => Receipt::Later,
@@ -163,7 +163,7 @@ impl HelperNode {
         let boss = self.ends.room(NodeId::boss());
         let me = self.helper.id();
         let post = self.helper.flush(boss);
-        let _ = self.ends.send(me, post, Work::none(), out);
+        let _ = self.ends.send(me, post, Work::empty(), out);
         Reply::Answered(Answer::Fine)
     }
 

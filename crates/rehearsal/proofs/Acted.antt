@@ -8,8 +8,7 @@ use Rattle.stage.specs.declared.command.Command.{Command}
 use Rattle.stage.specs.declared.command.Command.TheVariants.{Give, Share, Rest, Say, Pass, Flush}
 use Rattle.stage.specs.Plays.{Out, plays, Onward}
 use Rattle.stage.proofs.Played.{runs_on}
-use Rattle.coins.specs.declared.work.Work.{Work}
-use Rattle.coins.specs.Works.{no_work}
+use Rattle.coins.specs.Works.{Work, no_work}
 use Rattle.stage.specs.Scenes.{Scene, opening, mails, world}
 use Rattle.rehearsal.specs.Steps.{after_pass, follows}
 

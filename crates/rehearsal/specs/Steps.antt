@@ -5,9 +5,8 @@ use Rattle.text.specs.Hex.{is_hex_text, bytes_of}
 use Rattle.coins.specs.declared.answer.Answer.{Answer}
 use Rattle.coins.specs.declared.answer.Answer.TheVariants.{Fine, Done, Refused}
 use Rattle.coins.specs.declared.answer.Refusal.TheVariants.{Malformed}
-use Rattle.coins.specs.declared.work.Work.{Work}
 use Rattle.coins.specs.Limits.{boss_number}
-use Rattle.coins.specs.Works.{no_work}
+use Rattle.coins.specs.Works.{Work, no_work}
 use Rattle.coins.specs.Works as work
 use Rattle.runs.specs.System.{World, Runs, start}
 use Rattle.stage.specs.declared.command.Command.{Command}

@@ -62,7 +62,7 @@ impl Rehearsal {
         ensures does { OnOk result (self.new ≡ (plays self.old (Command.Flush by) no_work).scene) }
         ensures goes { Runs (world self.old) (world self.new) }
     {
-        self.stage.play(Command::Flush { by }, Work::none())?;
+        self.stage.play(Command::Flush { by }, Work::empty())?;
         Ok(())
     }
 
@@ -71,7 +71,7 @@ impl Rehearsal {
         ensures { IfOk result (λ o. MatchOption o (is_work hex.now ≡ false) (λ w. (is_work hex.now ≡ true) × (work_bytes w ≡ bytes_of hex.now))) }
     {
         match unhex(self.heap, hex) {
-            Ok(bytes) => Ok(Work::new(&bytes)),
+            Ok(bytes) => Ok(Work::try_from(bytes.as_slice()).ok()),
             Err(HexFault::NotHex) => Ok(None),
             Err(HexFault::NoMemory) => Err(AllocError),
         }

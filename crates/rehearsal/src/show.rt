@@ -175,7 +175,7 @@ fn push_row(out: &mut Vec<u8>, parcel: &Parcel, letter: LetterId) -> Result<(), 
     ensures { OnOk result (Added out.old.items out.new.items (row_of letter parcel.now)) }
 {
     if parcel.mail.letter.number == letter.number {
-        push_mail(out, parcel.mail, parcel.work.bytes())?;
+        push_mail(out, parcel.mail, parcel.work.as_slice())?;
     }
     Ok(())
 }

@@ -1,7 +1,7 @@
 -- What is played is a run of the system.
 use Rattle.std.specs.Prelude.{ℕ, List}
 use Rattle.coins.specs.declared.ids.NodeId.{NodeId}
-use Rattle.coins.specs.declared.work.Work.{Work}
+use Rattle.coins.specs.Works.{Work}
 use Rattle.lines.specs.Runs.{Runs}
 use Rattle.network.specs.Network.{NetStep, NetReach}
 use Rattle.scenes.specs.declared.command.Command.{Command}

@@ -8,7 +8,7 @@ use Rattle.coins.specs.declared.ids.LetterId.{LetterId}
 use Rattle.coins.specs.declared.ids.NodeId.{NodeId}
 use Rattle.coins.specs.declared.mail.Kind.TheVariants.{Work as Works}
 use Rattle.coins.specs.declared.parcel.Parcel.{Parcel}
-use Rattle.coins.specs.declared.work.Work.{Work}
+use Rattle.coins.specs.Works.{Work}
 use Rattle.coins.specs.Limits.{boss_number}
 use Rattle.boss_coins.specs.declared.boss.Boss.{Boss}
 use Rattle.helper_coins.specs.declared.helper.Helper.{Helper}
@@ -116,7 +116,7 @@ seek_packet [] s r k = 0
 seek_packet (p ∷ ps) s r k = cond (goes_on s r p) (cond (k == 0) 0 (suc (seek_packet ps s r (k - 1)))) (suc (seek_packet ps s r k))
 
 abbrev pub no_packet : Packet
-no_packet = record { sender = record { number = 0 }; receiver = record { number = 0 }; frame = record { len = 0; bytes = [] } }
+no_packet = record { sender = record { number = 0 }; receiver = record { number = 0 }; frame = [] }
 
 abbrev pub packet_at : List Packet → ℕ → Packet
 packet_at ps j = slice_index_or ps j no_packet
@@ -149,7 +149,7 @@ play_late s j = by_packet s j (done s (remove s.net j ++ packet_at s.net j ∷ [
 -- What a line keeps comes through, without a packet that is on its way: e is the sender's end, t what the receiver
 -- took. The next message is sent again and comes; where all were taken, the receiver's answer does.
 abbrev pub no_parcel : Parcel
-no_parcel = record { mail = record { sender = record { number = 0 }; receiver = record { number = 0 }; letter = record { number = 0 }; kind = Works 0 }; work = record { len = 0; bytes = [] } }
+no_parcel = record { mail = record { sender = record { number = 0 }; receiver = record { number = 0 }; letter = record { number = 0 }; kind = Works 0 }; work = [] }
 
 abbrev pub come_by : Scene → NodeId → NodeId → End → ℕ → Out
 come_by s from r e t =

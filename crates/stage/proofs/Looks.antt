@@ -42,7 +42,7 @@ unfolding mails
 mails_length ps = length-map ps (λ (p : Parcel). p.mail)
 
 abbrev pub no_parcel : Parcel
-no_parcel = record { mail = no_mail; work = record { len = 0; bytes = [] } }
+no_parcel = record { mail = no_mail; work = [] }
 
 pub mail_of : (ps : List Parcel) (k : ℕ) → k < length ps → mail_at (mails ps) k ≡ (get_or ps k no_parcel).mail
 unfolding mails

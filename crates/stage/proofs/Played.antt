@@ -33,12 +33,11 @@ use Rattle.runs.proofs.Books.{closed}
 use Rattle.runs.proofs.Queued.{same_node}
 use Rattle.runs.proofs.Always.{always}
 use Rattle.runs.proofs.Theorems.{promised_of}
-use Rattle.coins.specs.declared.work.Work.{Work}
 use Rattle.coins.specs.declared.parcel.Parcel.{Parcel}
 use Rattle.stage.specs.declared.command.Command.{Command}
 use Rattle.stage.specs.declared.command.Command.TheVariants.{Give, Share, Rest, Say, Pass, Flush}
 use Rattle.std.specs.declared.alloc.AllocError.{AllocError}
-use Rattle.coins.specs.Works.{no_work}
+use Rattle.coins.specs.Works.{Work, no_work}
 use Rattle.stage.specs.Scenes.{Scene, mails, world, sent_on, room}
 use Rattle.coins.specs.Parcels.{parcel_of}
 use Rattle.stage.specs.Plays.{Out, boss_id, refuse, boss_did, helper_did, play_give, play_say, play_share, play_rest, play_flush, taken, to_helper, to_boss, play_pass, plays, Outcome, Onward, Said, next, Lets}

@@ -19,7 +19,6 @@ use Rattle.helper_coins.specs.Helpers.{share_step, rest_step, flush_step, arrive
 use Rattle.boss_coins.specs.Bosses.{give_step, say_step, receive_step}
 use Rattle.runs.specs.System.{World, helper_at, mail_at, head, Step}
 use Rattle.runs.specs.Letter.{view, is_done, Quiet, holding_at}
-use Rattle.coins.specs.declared.work.Work.{Work}
 use Rattle.stage.specs.declared.command.Command.{Command}
 use Rattle.stage.specs.declared.command.Command.TheVariants.{Give, Share, Rest, Say, Pass, Flush}
 use Rattle.coins.specs.Works.{no_work}

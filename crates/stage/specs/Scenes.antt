@@ -1,6 +1,7 @@
 -- A boss, helpers, and the messages under way, each with the bytes of its work.
 use Rattle.std.specs.Prelude.{ℕ, ◌+◌, ◌-◌, List, [], ◌∷◌, ◌++◌, map, sum_by, count_by, Some, None, Option, nat_lt}
 use Rattle.std.specs.List.{position_or_len}
+use Rattle.coins.specs.Works.{Work}
 use Rattle.coins.specs.declared.ids.NodeId.{NodeId}
 use Rattle.coins.specs.declared.mail.Mail.{Mail}
 use Rattle.helper_coins.specs.declared.helper.Helper.{Helper}
@@ -9,7 +10,6 @@ use Rattle.helper_coins.specs.Helpers.{seek_waiting}
 use Rattle.boss_coins.specs.Bosses.{new_boss}
 use Rattle.runs.specs.System.{World, crew, on_line}
 use Rattle.runs.specs.Letter.{mailed, delayed}
-use Rattle.coins.specs.declared.work.Work.{Work}
 use Rattle.coins.specs.declared.parcel.Parcel.{Parcel}
 use Rattle.coins.specs.Parcels.{parcel_of}
 

@@ -90,7 +90,7 @@ impl Stage {
         ensures calmed { OnOk result (Calmed (world self.old) (world self.new)) }
     {
         while let Some(command) = self.table.next() {
-            self.play(command, Work::none())?;
+            self.play(command, Work::empty())?;
         }
         Ok(())
     }

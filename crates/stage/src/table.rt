@@ -97,7 +97,7 @@ impl Table {
         let boss = room(&self.post, by, NodeId::boss());
         self.post.reserve(1)?;
         let done = self.helpers[i].rest(letter, boss);
-        self.send(done.post, Work::none());
+        self.send(done.post, Work::empty());
         Ok(done.answer)
     }
 
@@ -111,7 +111,7 @@ impl Table {
         let boss = room(&self.post, by, NodeId::boss());
         self.post.reserve(1)?;
         let post = self.helpers[i].flush(boss);
-        self.send(post, Work::none());
+        self.send(post, Work::empty());
         Ok(Answer::Fine)
     }
 
@@ -123,7 +123,7 @@ impl Table {
         match taking {
             Ok(post) => {
                 let _ = self.post.remove(k);
-                self.send(post, Work::none());
+                self.send(post, Work::empty());
                 Answer::Fine
             }
             Err(Untaken::Later) => Answer::Refused(Refusal::NoPlace),

@@ -13,8 +13,6 @@ use Rattle.wire.specs.Bytes.{rest, encode, decode}
 use Rattle.wire.specs.Frames.{framed, frame_bytes}
 use Rattle.wire.specs.Theorems.{FirstPartsRefused}
 use Rattle.wire.proofs.Numbers.{all_number_bytes}
-use Rattle.wire.proofs.Lengths.{encode_length}
-use Rattle.wire.proofs.Framing.{frame_bytes_framed}
 use Rattle.wire.proofs.Writing.{written_is_read, nothing_behind}
 use Rattle.wire.proofs.Reading.{read_is_written}
 
@@ -55,14 +53,11 @@ first_parts_refused m k o l =
     both (decode (encode m)) m (ap decode (sym whole) ∙ nothing_behind n (get_or (encode m) k 0) (drop (k + 1) (encode m)) front.1) (written_is_read m o))
 
 -- what is in the frame of a message is read as the message
-pub frame_read : (m : Msg) → Sound m → decode (frame_bytes (framed (encode m))) ≡ Some m
-frame_read m o = ap decode (frame_bytes_framed (encode m) (encode_length m o.short)) ∙ written_is_read m o
-
 pub numbered_read : (p : Parcel) (n : ℕ) → Sound (numbered_msg p n) → decode (frame_bytes (framed (encode (numbered_msg p n)))) ≡ Some (numbered_msg p n)
-numbered_read p n o = frame_read (numbered_msg p n) o
+numbered_read p n o = written_is_read (numbered_msg p n) o
 
 pub taken_read : (s r n : ℕ) → Sound (taken_msg s r n) → decode (frame_bytes (framed (encode (taken_msg s r n)))) ≡ Some (taken_msg s r n)
-taken_read s r n o = frame_read (taken_msg s r n) o
+taken_read s r n o = written_is_read (taken_msg s r n) o
 
 -- an acknowledgement between two nodes can be
 pub taken_sound : (s r n : ℕ) → goes s r Taken ≡ true → n < 2 ^ 64 → Sound (taken_msg s r n)

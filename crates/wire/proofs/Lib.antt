@@ -1,7 +1,7 @@
 pub mod Numbers
-pub mod Parts
-pub mod Framing
+pub mod Putting
 pub mod Lengths
+pub mod Cutting
 pub mod Reading
 pub mod Writing
 pub mod Agreed

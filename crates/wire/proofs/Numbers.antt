@@ -1,8 +1,9 @@
 -- Numbers as bytes, over the width.
-use Rattle.std.proofs.Common.{◌≡◌, ℕ, zero, suc, ◌+◌, ◌*◌, ◌/◌, ◌%◌, ◌^◌, ◌<◌, ◌≤◌, List, ◌∷◌, ◌++◌, length, get_or, drop, sym, refl, ap, ◌∙◌, ⊎_elim, add-zero, mod-lt, mod-eq_of_lt, mul_assoc, add-one, arith}
+use Rattle.std.proofs.Common.{◌≡◌, ℕ, zero, suc, ◌+◌, ◌*◌, ◌/◌, ◌%◌, ◌^◌, ◌<◌, ◌≤◌, List, ◌∷◌, ◌++◌, length, get_or, take, drop, sym, refl, ap, ◌∙◌, ⊎_elim, add-zero, add_assoc, div-one, w8, w16, w32, w64, mod-lt, mod-eq_of_lt, mul_assoc, add-one, arith}
 use native.Mathlib.Nat.{mod-one, mul-add-div_right, mul-add-mod_self_right, pow-succ', one-le-pow}
 use lib.Arith.{mod-mul, digits_lt, digits_div}
-use Rattle.std.proofs.lemmas.List.{drop_more, get_or_past}
+use Rattle.std.specs.Int.{Width, w128, byte_len, bytes_high_first, from_be_bytes}
+use Rattle.std.proofs.lemmas.List.{drop_more, get_or_past, get_or-take, get_or-drop}
 use Rattle.std.proofs.lemmas.List.Elements.{All-get_or, All-nil, All-cons}
 use Rattle.std.proofs.lemmas.Bool.{cases_lt}
 use Rattle.wire.specs.Numbers.{number_bytes, number_at}
@@ -63,3 +64,37 @@ bytes_number_at (suc w) bs i h l =
     let further : i + suc w ≡ (i + 1) + w = omega arith in
     let behind : number_bytes w v ++ drop ((i + 1) + w) bs ≡ drop (i + 1) bs = bytes_number_at w bs (i + 1) h (omega arith) in
     rw (head, low w b v, further, behind) (sym (drop_more bs i 0 (omega arith)))
+
+-- what std writes of a number are its bytes
+pub high_first_bytes : (w n : ℕ) → bytes_high_first w n ≡ number_bytes w n
+unfolding number_bytes
+high_first_bytes zero n = refl
+high_first_bytes (suc zero) n = rw (div-one n)
+high_first_bytes (suc (suc w)) n = ap (λ xs. n / 256 ^ suc w % 256 ∷ xs) (high_first_bytes (suc w) n)
+
+-- what stands before a place does not matter
+pub number_at_drop : (w : ℕ) (bs : List ℕ) (at i : ℕ) → number_at w (drop at bs) i ≡ number_at w bs (at + i)
+unfolding number_at
+number_at_drop zero bs at i = refl
+number_at_drop (suc w) bs at i = rw (get_or-drop at bs i 0, number_at_drop w bs at (i + 1), add_assoc at i 1)
+
+-- nor what stands behind the number
+number_at_take : (w k : ℕ) (bs : List ℕ) (i : ℕ) → i + w ≤ k → number_at w (take k bs) i ≡ number_at w bs i
+unfolding number_at
+number_at_take zero k bs i h = refl
+number_at_take (suc w) k bs i h = rw (get_or-take k bs i 0 (omega arith), number_at_take w k bs (i + 1) (omega arith))
+
+-- what std reads of bytes is their number
+from_bytes : (w : Width) (bs : List ℕ) → from_be_bytes w bs ≡ number_at (byte_len w) bs 0
+unfolding number_at
+from_bytes w8 bs = omega arith
+from_bytes w16 bs = omega arith
+from_bytes w32 bs = simp add_assoc (omega arith)
+from_bytes w64 bs = simp add_assoc (omega arith)
+from_bytes w128 bs = simp add_assoc (omega arith)
+
+-- the number that is read of the first bytes from a place on
+pub number_of_part : (w : Width) (bs : List ℕ) (at : ℕ) {rest part : List ℕ} {n : ℕ} → rest ≡ drop at bs → part ≡ take (byte_len w) rest → n ≡ from_be_bytes w part → n ≡ number_at (byte_len w) bs at
+number_of_part w bs at {rest} {part} r p e =
+    e ∙ (from_bytes w part ∙ (ap (λ xs. number_at (byte_len w) xs 0) p ∙ (number_at_take (byte_len w) (byte_len w) rest 0 (omega arith)
+    ∙ (ap (λ xs. number_at (byte_len w) xs 0) r ∙ (number_at_drop (byte_len w) bs at 0 ∙ ap (number_at (byte_len w) bs) (add-zero at))))))

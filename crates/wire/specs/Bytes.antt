@@ -1,5 +1,5 @@
 -- The bytes of a message.
-use Rattle.std.specs.Prelude.{ℕ, ◌+◌, Bool, cond, ◌&&◌, ◌||◌, List, [], ◌∷◌, ◌++◌, length, drop, Some, None, Option, ◌==◌, nat_le, slice_index}
+use Rattle.std.specs.Prelude.{ℕ, ◌+◌, Bool, false, cond, ◌&&◌, ◌||◌, List, [], ◌∷◌, ◌++◌, length, drop, Some, None, Option, ◌==◌, nat_le, slice_index}
 use Rattle.coins.specs.declared.mail.Kind.{Kind}
 use Rattle.coins.specs.declared.mail.Kind.TheVariants.{Work, More, Back, NoMore, Ask}
 use Rattle.wire.specs.declared.message.Body.{Body}
@@ -31,6 +31,13 @@ span bs =
 -- neither cut short nor too long, and of a known kind
 abbrev pub is_whole : List ℕ → Bool
 is_whole bs = nat_le 17 (length bs) && length bs == span bs
+
+-- whether just this follows such a kind
+abbrev pub ends : ℕ → List ℕ → Bool
+ends k rest =
+    cond (k == 1) (length rest == 10 + number_at 2 rest 8)
+    (cond (k == 2 || k == 3) (length rest == 8)
+    (cond (k == 4 || k == 5) (length rest == 0) false))
 
 -- coins that go back: none, which come from the boss, mean that there are none
 abbrev pub back_of : ℕ → Kind

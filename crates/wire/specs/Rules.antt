@@ -1,19 +1,10 @@
 -- Which messages can be.
-use Rattle.std.specs.Prelude.{◌≡◌, ℕ, ◌^◌, ◌<◌, ◌≤◌, Bool, true, false, not, ◌&&◌, ◌||◌, List, [], length, All, ◌==◌, nat_le, nat_lt}
-use Rattle.coins.specs.Limits.{boss_number}
+use Rattle.std.specs.Prelude.{◌≡◌, ℕ, ◌^◌, ◌<◌, ◌≤◌, Bool, true, false, not, ◌&&◌, List, [], length, All, ◌==◌, nat_lt}
+use Rattle.coins.specs.Nodes.{is_helper, is_boss, is_node}
 use Rattle.coins.specs.declared.mail.Kind.TheVariants.{Work, More, Back, NoMore, Ask}
 use Rattle.wire.specs.declared.message.Body.{Body}
 use Rattle.wire.specs.declared.message.Body.TheVariants.{Numbered, Taken}
 use Rattle.wire.specs.Messages.{Msg, body_coins}
-
-abbrev pub is_helper : ℕ → Bool
-is_helper n = nat_le n 255
-
-abbrev pub is_boss : ℕ → Bool
-is_boss n = n == boss_number
-
-abbrev pub is_node : ℕ → Bool
-is_node n = is_helper n || is_boss n
 
 -- which way each body goes: sender, receiver
 abbrev pub goes : ℕ → ℕ → Body → Bool

@@ -3,7 +3,7 @@ use coins::ids::{LetterId, NodeId};
 use coins::mail::Kind;
 
 // The number of a message among those from its sender to its receiver, from 1.
-#[derive(Clone, Copy)]
+#[derive(Clone, Copy, PartialEq, Eq, PartialOrd, Ord, Debug)]
 pub struct SequenceNumber {
     pub number: u64,
 }

@@ -1,80 +1,43 @@
 // A message from its bytes.
-ghost use Rattle.std.specs.Prelude.{◌≡◌, ◌+◌, ◌≤◌, true, length, drop, Some, None, MatchOption, slice_index};
+ghost use Rattle.std.specs.Prelude.{◌≡◌, ◌≢◌, true, false, length, drop, Some, None, MatchOption};
 ghost use Rattle.wire.specs.Numbers.{number_at};
 ghost use Rattle.wire.specs.Messages.{view};
-ghost use Rattle.wire.specs.Rules.{is_helper, is_boss, is_node, goes, is_paid};
-ghost use Rattle.wire.specs.Bytes.{is_whole, back_of, body_of, is_fine, decode};
+ghost use Rattle.wire.specs.Rules.{goes, is_paid};
+ghost use Rattle.wire.specs.Bytes.{ends, back_of, body_of, is_fine, decode};
 
 use crate::message::{Body, Message, SequenceNumber};
-use coins::ids::{BOSS, LetterId, NodeId};
+use coins::ids::{LetterId, NodeId};
 use coins::mail::Kind;
 use coins::work::LONGEST;
 
-// A message has this many bytes with its kind, with its coins, and with the length of its work.
-const HEAD: usize = 17;
-
-const WITH_COINS: usize = 25;
-
-const WITH_LENGTH: usize = 27;
-
-// Numbers of two, four and eight bytes from a place on, the high byte first.
-fn be16(bytes: &[u8], at: usize) -> u16
-    requires { at + 2 ≤ length bytes.now }
-    ensures { result ≡ number_at 2 bytes.now at }
+// The coins that all of these bytes are.
+fn coins(rest: &[u8]) -> Option<u64>
+    ensures { MatchOption result (length rest.now ≢ 8) (λ c. (length rest.now ≡ 8) × (c ≡ number_at 8 rest.now 0)) }
 {
-    u16::from_be_bytes([bytes[at], bytes[at + 1]])
+    let (coins, rest) = rest.split_first_chunk::<8>()?;
+    rest.is_empty().then_some(u64::from_be_bytes(*coins))
 }
 
-fn be32(bytes: &[u8], at: usize) -> u32
-    requires { at + 4 ≤ length bytes.now }
-    ensures { result ≡ number_at 4 bytes.now at }
+// What follows the kind says: the body, and the bytes of work that end the message.
+fn body(kind: u8, rest: &[u8]) -> Option<(Body, &[u8])>
+    ensures { MatchOption result (ends kind rest.now ≡ false) (λ p. (ends kind rest.now ≡ true) × (p.0 ≡ body_of kind (number_at 8 rest.now 0)) × (p.1.now ≡ drop 10 rest.now)) }
 {
-    u32::from_be_bytes([bytes[at], bytes[at + 1], bytes[at + 2], bytes[at + 3]])
-}
-
-fn be64(bytes: &[u8], at: usize) -> u64
-    requires { at + 8 ≤ length bytes.now }
-    ensures { result ≡ number_at 8 bytes.now at }
-{
-    u64::from_be_bytes([
-        bytes[at],
-        bytes[at + 1],
-        bytes[at + 2],
-        bytes[at + 3],
-        bytes[at + 4],
-        bytes[at + 5],
-        bytes[at + 6],
-        bytes[at + 7],
-    ])
-}
-
-// Whether these are as many bytes as a message has that begins so, of a kind that there is.
-fn is_whole(bytes: &[u8]) -> bool
-    ensures { result ≡ is_whole bytes.now }
-{
-    let n = bytes.len();
-    if n < HEAD {
-        return false;
-    }
-    match bytes[16] {
-        1 => n >= WITH_LENGTH && n == WITH_LENGTH + be16(bytes, WITH_COINS) as usize,
-        2 | 3 => n == WITH_COINS,
-        4 | 5 => n == HEAD,
-        _ => false,
-    }
-}
-
-// The body of a whole message.
-fn body(bytes: &[u8]) -> Body
-    requires { is_whole bytes.now ≡ true }
-    ensures { result ≡ body_of (slice_index bytes.now 16) (number_at 8 bytes.now 17) }
-{
-    match bytes[16] {
-        1 => Body::Numbered(Kind::Work(be64(bytes, HEAD))),
-        2 => Body::Numbered(Kind::More(be64(bytes, HEAD))),
-        3 => Body::Numbered(back(be64(bytes, HEAD))),
-        4 => Body::Numbered(Kind::Ask),
-        _ => Body::Taken,
+    match kind {
+        1 => {
+            let (coins, rest) = rest.split_first_chunk::<8>()?;
+            let (count, work) = rest.split_first_chunk::<2>()?;
+            let coins = u64::from_be_bytes(*coins);
+            if work.len() == u16::from_be_bytes(*count) as usize {
+                Some((Body::Numbered(Kind::Work(coins)), work))
+            } else {
+                None
+            }
+        }
+        2 => Some((Body::Numbered(Kind::More(coins(rest)?)), &[])),
+        3 => Some((Body::Numbered(back(coins(rest)?)), &[])),
+        4 if rest.is_empty() => Some((Body::Numbered(Kind::Ask), rest)),
+        5 if rest.is_empty() => Some((Body::Taken, rest)),
+        _ => None,
     }
 }
 
@@ -89,45 +52,19 @@ fn back(coins: u64) -> Kind
     }
 }
 
-// The bytes of the work: none where the message ends before them.
-fn work(bytes: &[u8]) -> &[u8]
-    ensures { result.now ≡ drop 27 bytes.now }
-{
-    let start = bytes.len().min(WITH_LENGTH);
-    &bytes[start..]
-}
-
-fn is_helper(node: NodeId) -> bool
-    ensures { result ≡ is_helper node.number }
-{
-    node.number <= 255
-}
-
-fn is_boss(node: NodeId) -> bool
-    ensures { result ≡ is_boss node.number }
-{
-    node.number == BOSS
-}
-
-fn is_node(node: NodeId) -> bool
-    ensures { result ≡ is_node node.number }
-{
-    is_helper(node) || is_boss(node)
-}
-
 // Whether such a body goes that way.
 fn goes_so(sender: NodeId, receiver: NodeId, body: Body) -> bool
     ensures { result ≡ goes sender.number receiver.number body }
 {
     match body {
-        Body::Numbered(Kind::Work(_)) => is_node(sender)
-            && is_helper(receiver)
-            && sender.number != receiver.number,
-        Body::Numbered(Kind::More(_)) => is_boss(sender) && is_helper(receiver),
-        Body::Numbered(Kind::Back(_)) => is_helper(sender) && is_boss(receiver),
-        Body::Numbered(Kind::NoMore) => is_boss(sender) && is_helper(receiver),
-        Body::Numbered(Kind::Ask) => is_helper(sender) && is_boss(receiver),
-        Body::Taken => is_node(sender) && is_node(receiver) && sender.number != receiver.number,
+        Body::Numbered(Kind::Work(_)) => sender.is_node()
+            && receiver.is_helper()
+            && sender != receiver,
+        Body::Numbered(Kind::More(_)) => sender.is_boss() && receiver.is_helper(),
+        Body::Numbered(Kind::Back(_)) => sender.is_helper() && receiver.is_boss(),
+        Body::Numbered(Kind::NoMore) => sender.is_boss() && receiver.is_helper(),
+        Body::Numbered(Kind::Ask) => sender.is_helper() && receiver.is_boss(),
+        Body::Taken => sender.is_node() && receiver.is_node() && sender != receiver,
     }
 }
 
@@ -156,28 +93,27 @@ fn is_fine(message: &Message<'_>) -> bool
 pub fn read(bytes: &[u8]) -> Option<Message<'_>>
     ensures { MatchOption result (decode bytes.now ≡ None) (λ m. decode bytes.now ≡ Some (view m)) }
 {
-    if !is_whole(bytes) {
-        return None;
-    }
+    let (letter, rest) = bytes.split_first_chunk::<4>()?;
+    let (sender, rest) = rest.split_first_chunk::<2>()?;
+    let (receiver, rest) = rest.split_first_chunk::<2>()?;
+    let (number, rest) = rest.split_first_chunk::<8>()?;
+    let (kind, rest) = rest.split_first()?;
+    let (body, work) = body(*kind, rest)?;
     let message = Message {
         letter: LetterId {
-            number: be32(bytes, 0),
+            number: u32::from_be_bytes(*letter),
         },
         sender: NodeId {
-            number: be16(bytes, 4),
+            number: u16::from_be_bytes(*sender),
         },
         receiver: NodeId {
-            number: be16(bytes, 6),
+            number: u16::from_be_bytes(*receiver),
         },
         number: SequenceNumber {
-            number: be64(bytes, 8),
+            number: u64::from_be_bytes(*number),
         },
-        body: body(bytes),
-        work: work(bytes),
+        body,
+        work,
     };
-    if is_fine(&message) {
-        Some(message)
-    } else {
-        None
-    }
+    is_fine(&message).then_some(message)
 }

@@ -2,29 +2,21 @@
 ghost use Rattle.wire.specs.Theorems.{WrittenIsRead, ReadIsWritten, FirstPartsRefused, NothingBehind};
 
 // What is written of a message that can be is read as that message.
-pub fn written_is_read() -> u8
+pub fn written_is_read()
     ensures { WrittenIsRead }
-{
-    0
-}
+{}
 
 // Bytes that are read as a message are those that are written of it, and it can be: the reader takes nothing else.
-pub fn read_is_written() -> u8
+pub fn read_is_written()
     ensures { ReadIsWritten }
-{
-    0
-}
+{}
 
 // A message that is cut short is refused, wherever it is cut.
-pub fn first_parts_refused() -> u8
+pub fn first_parts_refused()
     ensures { FirstPartsRefused }
-{
-    0
-}
+{}
 
 // A message with anything behind it is refused.
-pub fn nothing_behind() -> u8
+pub fn nothing_behind()
     ensures { NothingBehind }
-{
-    0
-}
+{}

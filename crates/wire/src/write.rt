@@ -1,9 +1,8 @@
 // The bytes of a message.
 ghost use Rattle.std.specs.Prelude.{◌≡◌, ◌+◌, ◌≤◌, ◌∷◌, ◌++◌, length};
-ghost use Rattle.wire.specs.Numbers.{number_bytes};
 ghost use Rattle.wire.specs.Messages.{view, body_number, numbered_msg, taken_msg};
 ghost use Rattle.wire.specs.Bytes.{rest, encode};
-ghost use Rattle.wire.specs.Frames.{framed, Grown, written};
+ghost use Rattle.wire.specs.Frames.{framed, written};
 
 use crate::frame::Frame;
 use crate::message::{Body, Message, SequenceNumber};
@@ -22,57 +21,30 @@ fn body_number(body: Body) -> u8
     }
 }
 
-// Puts a number in two, four or eight bytes, the high byte first.
-fn put16(frame: &mut Frame, n: u16)
-    requires { frame.old.len + 2 ≤ 283 }
-    ensures bytes { Grown frame.old frame.new (number_bytes 2 n) }
-    ensures len { frame.new.len ≡ frame.old.len + 2 }
+// Puts a part where there is place for it.
+fn put(frame: &mut Frame, part: &[u8])
+    requires { length frame.old + length part.now ≤ 283 }
+    ensures { frame.new ≡ frame.old ++ part.now }
 {
-    frame.put(&n.to_be_bytes());
-}
-
-fn put32(frame: &mut Frame, n: u32)
-    requires { frame.old.len + 4 ≤ 283 }
-    ensures bytes { Grown frame.old frame.new (number_bytes 4 n) }
-    ensures len { frame.new.len ≡ frame.old.len + 4 }
-{
-    frame.put(&n.to_be_bytes());
-}
-
-fn put64(frame: &mut Frame, n: u64)
-    requires { frame.old.len + 8 ≤ 283 }
-    ensures bytes { Grown frame.old frame.new (number_bytes 8 n) }
-    ensures len { frame.new.len ≡ frame.old.len + 8 }
-{
-    frame.put(&n.to_be_bytes());
-}
-
-// Puts who sends it, and who receives it.
-fn put_ends(frame: &mut Frame, sender: NodeId, receiver: NodeId)
-    requires { frame.old.len + 4 ≤ 283 }
-    ensures bytes { Grown frame.old frame.new (number_bytes 2 sender.number ++ number_bytes 2 receiver.number) }
-    ensures len { frame.new.len ≡ frame.old.len + 4 }
-{
-    put16(frame, sender.number);
-    put16(frame, receiver.number);
+    let _ = frame.push_slice(part);
 }
 
 // Puts the kind, and what follows it.
 fn put_body(frame: &mut Frame, body: Body, work: &[u8])
-    requires room { frame.old.len ≤ 16 }
+    requires room { length frame.old ≤ 16 }
     requires short { length work.now ≤ 256 }
-    ensures { Grown frame.old frame.new (body_number body ∷ rest body work.now) }
+    ensures { frame.new ≡ frame.old ++ (body_number body ∷ rest body work.now) }
 {
-    frame.put(&[body_number(body)]);
+    put(frame, &[body_number(body)]);
     match body {
         Body::Numbered(Kind::Work(coins)) => {
-            put64(frame, coins);
-            put16(frame, work.len() as u16);
-            frame.put(work);
+            put(frame, &coins.to_be_bytes());
+            put(frame, &(work.len() as u16).to_be_bytes());
+            put(frame, work);
         }
-        Body::Numbered(Kind::More(coins)) => put64(frame, coins),
-        Body::Numbered(Kind::Back(coins)) => put64(frame, coins),
-        Body::Numbered(Kind::NoMore) => put64(frame, 0),
+        Body::Numbered(Kind::More(coins)) => put(frame, &coins.to_be_bytes()),
+        Body::Numbered(Kind::Back(coins)) => put(frame, &coins.to_be_bytes()),
+        Body::Numbered(Kind::NoMore) => put(frame, &0u64.to_be_bytes()),
         Body::Numbered(Kind::Ask) | Body::Taken => {}
     }
 }
@@ -83,9 +55,10 @@ fn frame_of(message: &Message<'_>) -> Frame
     ensures { result ≡ framed (encode (view message.now)) }
 {
     let mut frame = Frame::empty();
-    put32(&mut frame, message.letter.number);
-    put_ends(&mut frame, message.sender, message.receiver);
-    put64(&mut frame, message.number.number);
+    put(&mut frame, &message.letter.number.to_be_bytes());
+    put(&mut frame, &message.sender.number.to_be_bytes());
+    put(&mut frame, &message.receiver.number.to_be_bytes());
+    put(&mut frame, &message.number.number.to_be_bytes());
     put_body(&mut frame, message.body, message.work);
     frame
 }
@@ -112,7 +85,7 @@ pub fn numbered(parcel: &Parcel, number: SequenceNumber) -> Frame
         receiver: mail.receiver,
         number,
         body: Body::Numbered(mail.kind),
-        work: parcel.work.bytes(),
+        work: parcel.work.as_slice(),
     })
 }
 

@@ -31,6 +31,6 @@ returns-in-Ok c =
     let can : can_send c.in-Ok.post ends out ≡ true = subst (λ (d : TookIn). Fit ends out d.taking) g fits in
     let a : c.answer_for.result ≡ answer_of boss_id peer n = c.answer_for.ensures ∙ ap (λ (x : NodeId). answer_of x peer n) c.boss-me.ensures in
     let o : vec_items out ≡ os ++ answer_of boss_id peer n ∷ [] = c.push_reserved.ensures.items ∙ ap (λ (x : Packet). os ++ x ∷ []) a in
-    let s = sent c.send.result boss_id c.boss-me.result c.in-Ok.post no_work c.none.result ends out (took_from b.ends peer n) _ (os ++ answer_of boss_id peer n ∷ []) _ can c.boss-me.ensures c.none.ensures t o c.send.ensures.done c.send.ensures.ends c.send.ensures.out in
+    let s = sent c.send.result boss_id c.boss-me.result c.in-Ok.post no_work c.empty.result ends out (took_from b.ends peer n) _ (os ++ answer_of boss_id peer n ∷ []) _ can c.boss-me.ensures c.empty.ensures t o c.send.ensures.done c.send.ensures.ends c.send.ensures.out in
     ap (λ (d : TookIn). after boss_id peer n b.ends os (made_boss d)) (ap (receive_step b.state peer c.args.letter c.args.kind) (sym r) ∙ g)
     ∙ took_so boss_id peer n b.ends _ os _ c.arrive.new.self c.in-Ok.post s

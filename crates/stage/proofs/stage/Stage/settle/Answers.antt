@@ -1,8 +1,7 @@
 use Rattle.std.proofs.Common.{◌≡◌, Some, sym, subst}
 use Rattle.runs.specs.System.{Reach, still}
 use Rattle.runs.proofs.Theorems.{promised_of}
-use Rattle.coins.specs.declared.work.Work.{Work}
-use Rattle.coins.specs.Works.{no_work}
+use Rattle.coins.specs.Works.{Work, no_work}
 use Rattle.stage.specs.Scenes.{Scene, world}
 use Rattle.stage.specs.Plays.{plays, next, Lets}
 use Rattle.stage.proofs.Played.{runs_on, lets_on}
@@ -19,7 +18,7 @@ chosen c = rw (← c.self.view_is) (sym c.in-Some.ensures)
 played : (c : goal.In_ok-play) → plays c.loop-command.self c.in-Some.command no_work ≡ record { scene = c.play.new.self; answer = c.in_ok-play.field-0 }
 played c =
     subst (λ (w : Work). plays c.loop-command.self c.in-Some.command w ≡ record { scene = c.play.new.self; answer = c.in_ok-play.field-0 })
-    c.none.ensures c.in_ok-play.ensures.does
+    c.empty.ensures c.in_ok-play.ensures.does
 
 pub loop-command-init : goal.loop-command-init
 loop-command-init c = (Lets.still, still, λ letter pos q. q)
