@@ -21,7 +21,7 @@ use Rattle.runs.specs.System.{World, helper_at, mail_at, head, Step}
 use Rattle.runs.specs.Letter.{view, is_done, Quiet, holding_at}
 use Rattle.stage.specs.declared.command.Command.{Command}
 use Rattle.stage.specs.declared.command.Command.TheVariants.{Give, Share, Rest, Say, Pass, Flush}
-use Rattle.coins.specs.Works.{no_work}
+use Rattle.coins.specs.Works.{no_work, Work}
 use Rattle.stage.specs.Scenes.{Scene, mails, sent_on, room, seek_helper, seek_holder}
 
 pub record Out : Type 0 where
