@@ -1,23 +1,13 @@
-// Bytes as they are, and spaces.
-ghost use Rattle.std.specs.Prelude.{replicate, OnOk};
+// Text as it is.
+ghost use Rattle.std.specs.Prelude.{string_bytes, OnOk};
 ghost use Rattle.text.specs.Growth.{Added};
 
 use std::alloc::AllocError;
 
-// Puts bytes behind what is there.
-pub fn push_text(out: &mut Vec<u8>, text: &[u8]) -> Result<(), AllocError>
-    ensures { OnOk result (Added out.old.items out.new.items text.now) }
+// Puts a text behind what is there.
+pub fn push_text(out: &mut String, text: &str) -> Result<(), AllocError>
+    ensures { OnOk result (Added (string_bytes out.old) (string_bytes out.new) text.now) }
 {
-    out.extend_from_slice(text)?;
-    Ok(())
-}
-
-// Puts so many spaces behind what is there.
-pub(crate) fn push_spaces(out: &mut Vec<u8>, count: usize) -> Result<(), AllocError>
-    ensures { OnOk result (Added out.old.items out.new.items (replicate count 32)) }
-{
-    for _ in 0..count {
-        out.push(b' ')?;
-    }
+    out.push_str(text)?;
     Ok(())
 }
