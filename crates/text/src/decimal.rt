@@ -24,7 +24,7 @@ fn append(number: u64, digit: u32) -> Option<u64>
 }
 
 // The number that a text of 1 to 20 digits writes, if it is below 2^64. Zeros may lead.
-#[tactic(auto, using(crate::proofs::Values::value_more, crate::proofs::Values::value_all, crate::proofs::Values::value_ge, crate::proofs::Values::digits_more, crate::proofs::Values::digits_no, crate::proofs::Values::digits_all, crate::proofs::Values::number_is, crate::proofs::Values::no_digits, crate::proofs::Values::too_big, crate::proofs::Values::too_long))]
+#[tactic(auto, using(crate::proofs::Values::number_steps))]
 pub fn number(text: &[u8]) -> Option<u64>
     ensures { result ≡ number_of text.now }
 {
