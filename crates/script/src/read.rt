@@ -2,10 +2,11 @@
 ghost use Rattle.script.specs.Lines.{Reads, is_give, give as give_in, is_say, say as say_in, share as share_in, rest as rest_in, is_boss_line, boss_line, is_helper_line, helper_line, is_pass, pass as pass_in, is_new, afresh as new_in, can_begin, begin as begin_in, is_line, line_in};
 
 use crate::line::{HELPERS, Line};
-use crate::parts::{end, helper, letter, node, number_to, speaker, work};
+use crate::parts::{end, helper, letter, node, speaker, work};
 use crate::words::{code, is, split};
 use coins::ids::NodeId;
 use stage::command::Command;
+use text::decimal::number;
 
 // `give L I [HEX]`, from its letter on.
 fn give(text: &[u8]) -> Option<Line<'_>>
@@ -103,15 +104,16 @@ fn pass(text: &[u8]) -> Option<Line<'_>>
 }
 
 // What follows `new`.
+#[tactic(auto, unfolding(crate::specs::Parts::is_to, crate::specs::Parts::number_in))]
 fn new(text: &[u8]) -> Option<Line<'_>>
     ensures { Reads result (is_new text.now) (new_in text.now) }
 {
     let (word, text) = split(text)?;
     end(text)?;
-    let helpers = number_to(word, HELPERS as u64)?;
-    Some(Line::New {
-        helpers: helpers as u16,
-    })
+    let helpers = u16::try_from(number(word)?)
+        .ok()
+        .filter(|n| *n <= HELPERS)?;
+    Some(Line::New { helpers })
 }
 
 // A line by its first word.
