@@ -110,9 +110,7 @@ fn new(text: &[u8]) -> Option<Line<'_>>
 {
     let (word, text) = split(text)?;
     end(text)?;
-    let helpers = u16::try_from(number(word)?)
-        .ok()
-        .filter(|n| *n <= HELPERS)?;
+    let helpers = u16::try_from(number(word)?).ok().filter(|n| *n <= HELPERS)?;
     Some(Line::New { helpers })
 }
 

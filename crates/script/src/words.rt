@@ -30,10 +30,7 @@ pub(crate) fn split(text: &[u8]) -> Option<(&[u8], &[u8])>
 {
     let start = text.iter().position(|b| !is_blank(*b))?;
     let text = &text[start..];
-    let end = text
-        .iter()
-        .position(|b| is_blank(*b))
-        .unwrap_or(text.len());
+    let end = text.iter().position(|b| is_blank(*b)).unwrap_or(text.len());
     Some(text.split_at(end))
 }
 

@@ -1,8 +1,7 @@
-use Rattle.std.proofs.Common.{◌≡◌, ◌-◌, length, take, drop, ◌∙◌, rules}
-use Rattle.std.specs.List.{position, position_or_len}
+use Rattle.std.proofs.Common.{◌-◌, length, take, drop, ◌∙◌, rules}
 use Rattle.std.proofs.lemmas.Iterator.{YieldsList-from_slice}
 use Rattle.std.proofs.lemmas.Iterator.Search.{position_from_yields_List}
-use Rattle.script.specs.Words.{is_blank, is_ink, has_word, word_of, rest_of}
+use Rattle.script.specs.Words.{is_blank, is_ink}
 use Rattle.script.proofs.Fronts.{first_or_end, no_word, a_word, begins, words_from}
 use Rattle.script.proofs.words.split.Goals as goal
 
