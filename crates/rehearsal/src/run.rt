@@ -12,10 +12,11 @@ fn play_all<I: Read, O: Write>(
     heap: Global,
     input: &mut BufReader<I>,
     output: &mut O,
-    said: &mut Vec<u8>,
+    said: &mut String,
 ) -> io::Result<()> {
     let mut rehearsal = Rehearsal::new(heap)?;
     let mut line = Vec::new(heap);
+    // An input of unknown length is read by a loop with an end, and by lines without taking the rest of a chunk away.
     for _ in 0..u64::MAX {
         line.clear();
         if input.read_until(b'\n', &mut line)? == 0 {
@@ -23,7 +24,7 @@ fn play_all<I: Read, O: Write>(
         }
         rehearsal.step(&line, said)?;
         if said.len() >= CHUNK || !input.buffer().contains(&b'\n') {
-            output.write_all(said)?;
+            output.write_all(said.as_bytes())?;
             said.clear();
         }
     }
@@ -36,8 +37,8 @@ pub fn run<I: Read, O: Write>(
     input: &mut BufReader<I>,
     output: &mut O,
 ) -> io::Result<()> {
-    let mut said = Vec::new(heap);
+    let mut said = String::new(heap);
     let played = play_all(heap, input, output, &mut said);
-    output.write_all(&said)?;
+    output.write_all(said.as_bytes())?;
     played
 }
