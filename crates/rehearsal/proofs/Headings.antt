@@ -22,9 +22,5 @@ none_open (b ∷ bs) e = absurd (omega arith)
 pub from_none : (was now more : List ℕ) → was ≡ [] → Added was now more → now ≡ more
 from_none was now more e a = a.is ∙ ap (λ xs. xs ++ more) e
 
-module _ (was rows all : List ℕ) (n : ℕ) (l : n ≡ length rows) (same : rows ≡ all) where
-  pub no_rows : true ≡ eqb n 0 → Added was was (headed all)
-  no_rows e = record { is = sym (ap (λ xs. was ++ xs) (ap headed (sym same) ∙ headed_none rows n l e) ∙ append-nil was) }
-
-  pub with_rows : (mid now : List ℕ) → false ≡ eqb n 0 → Added was mid (codes "  from    to  kind       coins  bytes" ++ 10 ∷ []) → Added mid now rows → Added was now (headed all)
-  with_rows mid now e a b = subst (Added was now) (sym (headed_some rows n l e) ∙ ap headed same) (then a b)
+pub heading : (rows all : List ℕ) (n : ℕ) → n ≡ length rows → false ≡ eqb n 0 → rows ≡ all → codes "  from    to  kind       coins  bytes" ++ (10 ∷ rows) ≡ headed all
+heading rows all n l e same = sym (headed_some rows n l e) ∙ ap headed same

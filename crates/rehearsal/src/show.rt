@@ -13,7 +13,7 @@ use stage::stage::Stage;
 use std::alloc::{AllocError, Global};
 use std::fmt;
 use std::fmt::Write;
-use text::hex::push_hex;
+use text::hex::Hex;
 
 // Puts the table of all open letters behind what is there, by their numbers.
 pub(crate) fn push_stage(heap: Global, out: &mut String, stage: &Stage) -> Result<(), AllocError>
@@ -84,7 +84,7 @@ fn push_letter(
     let given = boss.given(letter);
     let back = boss.back(letter);
     writeln!(out, "letter {}: given {given}, back {back}", letter.number)?;
-    writeln!(out, "  helper       coins  at work  asked")?;
+    out.push_str("  helper       coins  at work  asked\n")?;
     push_helpers(out, stage, letter)?;
     push_parcels(heap, out, stage.parcels(), letter)
 }
@@ -164,9 +164,8 @@ fn push_mail(out: &mut String, mail: Mail, bytes: &[u8]) -> Result<(), AllocErro
     let receiver = Column(mail.receiver);
     let kind = kind_column(mail.kind);
     let coins = mail.kind.coins();
-    write!(out, "{sender}{receiver}{kind}  {coins:>10}")?;
-    push_bytes(out, bytes)?;
-    out.push_str("\n")
+    let bytes = Bytes(bytes);
+    writeln!(out, "{sender}{receiver}{kind}  {coins:>10}{bytes}")
 }
 
 // A helper's number, or `boss`, on the right of six columns.
@@ -201,13 +200,18 @@ fn kind_column(kind: Kind) -> &'static str
 }
 
 // Two spaces and bytes in hexadecimal, where there are some.
-#[tactic(auto, unfolding(crate::specs::Tables::bytes_column))]
-fn push_bytes(out: &mut String, bytes: &[u8]) -> Result<(), AllocError>
-    ensures { OnOk result (Added (string_bytes out.old) (string_bytes out.new) (bytes_column bytes.now)) }
-{
-    if bytes.is_empty() {
-        return Ok(());
+#[derive(Clone, Copy)]
+struct Bytes<'a>(&'a [u8]);
+
+impl fmt::Display for Bytes<'_> {
+    ghost output = { λ b. Some (bytes_column b.0.now) };
+
+    #[tactic(auto, unfolding(crate::specs::Tables::bytes_column))]
+    fn fmt<W: fmt::Write>(&self, f: &mut fmt::Formatter<W>) -> fmt::Result {
+        let bytes = self.0;
+        if bytes.is_empty() {
+            return Ok(());
+        }
+        write!(f, "  {}", Hex(bytes))
     }
-    out.push_str("  ")?;
-    push_hex(out, bytes)
 }

@@ -5,6 +5,7 @@ ghost use Rattle.text.specs.declared.hex.HexFault.TheVariants.{NoMemory};
 ghost use Rattle.text.specs.Hex.{hex_value, hex_digit, pair_of, bytes_of, is_hex_text, hex_of, Fails};
 
 use std::alloc::{AllocError, AllocFailed, Global};
+use std::fmt;
 use std::fmt::Write;
 use thiserror::Error;
 
@@ -69,12 +70,26 @@ pub fn unhex(heap: Global, text: &[u8]) -> Result<Vec<u8>, HexFault>
     Ok(bytes)
 }
 
+// Bytes that are shown in hexadecimal.
+#[derive(Clone, Copy)]
+pub struct Hex<'a>(pub &'a [u8]);
+
+impl fmt::Display for Hex<'_> {
+    ghost use Rattle.std.specs.Prelude.{Some};
+
+    ghost output = { λ h. Some (hex_of h.0.now) };
+
+    fn fmt<W: fmt::Write>(&self, f: &mut fmt::Formatter<W>) -> fmt::Result {
+        for &byte in self.0 {
+            write!(f, "{byte:02x}")?;
+        }
+        Ok(())
+    }
+}
+
 // Puts the hexadecimal of the bytes behind what is there.
 pub fn push_hex(out: &mut String, bytes: &[u8]) -> Result<(), AllocError>
     ensures { OnOk result (Added (string_bytes out.old) (string_bytes out.new) (hex_of bytes.now)) }
 {
-    for byte in bytes {
-        write!(out, "{byte:02x}")?;
-    }
-    Ok(())
+    write!(out, "{}", Hex(bytes))
 }
