@@ -1,5 +1,5 @@
 -- What is written of a row, column by column.
-use Rattle.std.proofs.Common.{◌≡◌, ℕ, ◌-◌, ◌^◌, Bool, true, false, List, [], ◌∷◌, ◌++◌, codes, refl}
+use Rattle.std.proofs.Common.{◌≡◌, ℕ, ◌-◌, ◌^◌, Bool, true, false, List, ◌++◌, codes, refl}
 use Rattle.std.specs.Fmt.{format_spec, styled_text, padded, take_chars, char_count}
 use Rattle.rehearsal.specs.Tables.{yes_or_no, work_column, asked_column}
 

@@ -1,8 +1,7 @@
 -- A heading stands where there are rows, and a line in place of letters where there are none.
-use Rattle.std.proofs.Common.{◌≡◌, ℕ, true, false, eqb, List, [], ◌∷◌, ◌++◌, length, codes, sym, refl, ap, ◌∙◌, subst, append-nil, arith}
+use Rattle.std.proofs.Common.{◌≡◌, ℕ, true, false, eqb, List, [], ◌∷◌, ◌++◌, length, codes, sym, refl, ap, ◌∙◌, arith}
 use Rattle.std.proofs.lemmas.Bool.{eqb-true, eqb-false}
 use Rattle.text.specs.Growth.{Added}
-use Rattle.text.proofs.Growing.{then}
 use Rattle.rehearsal.specs.Tables.{headed, or_none}
 
 -- n is how many bytes there are

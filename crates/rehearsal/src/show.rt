@@ -71,7 +71,6 @@ fn push_open(heap: Global, out: &mut String, stage: &Stage, number: u32) -> Resu
     Ok(())
 }
 
-#[tactic(auto, using(text::proofs::Growing::then), unfolding(crate::specs::Tables::letter_table, crate::specs::Tables::counts_row))]
 fn push_letter(
     heap: Global,
     out: &mut String,
@@ -100,7 +99,7 @@ fn push_helpers(out: &mut String, stage: &Stage, letter: LetterId) -> Result<(),
     Ok(())
 }
 
-#[tactic(auto, using(text::proofs::Written::right_aligned), unfolding(crate::specs::Tables::helper_row, crate::specs::Tables::coins_column))]
+#[tactic(auto, using(text::proofs::Written::right_aligned, crate::proofs::Columns::work_is, crate::proofs::Columns::asked_is), unfolding(crate::specs::Tables::helper_row, crate::specs::Tables::coins_column))]
 fn push_helper(out: &mut String, helper: NodeId, holding: Holding) -> Result<(), AllocError>
     ensures { OnOk result (Added (string_bytes out.old) (string_bytes out.new) (helper_row helper holding)) }
 {
@@ -156,7 +155,7 @@ fn push_row(out: &mut String, parcel: &Parcel, letter: LetterId) -> Result<(), A
 }
 
 // A message, and the bytes of its work.
-#[tactic(auto, using(text::proofs::Written::right_aligned, text::proofs::Growing::then), unfolding(crate::specs::Tables::mail_row, crate::specs::Tables::coins_column))]
+#[tactic(auto, using(text::proofs::Written::right_aligned), unfolding(crate::specs::Tables::mail_row, crate::specs::Tables::coins_column))]
 fn push_mail(out: &mut String, mail: Mail, bytes: &[u8]) -> Result<(), AllocError>
     ensures { OnOk result (Added (string_bytes out.old) (string_bytes out.new) (mail_row mail bytes.now)) }
 {

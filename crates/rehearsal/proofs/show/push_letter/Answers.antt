@@ -1,8 +1,8 @@
-use Rattle.std.proofs.Common.{◌≡◌, ◌++◌, [], ◌∷◌, codes, string_bytes, decimal, OnOk, rules}
+use Rattle.std.proofs.Common.{◌≡◌, ◌++◌, [], ◌∷◌, codes, string_bytes, decimal}
 use Rattle.boss_coins.specs.Bosses.{given_of, back_of}
 use Rattle.stage.specs.Stages.{scene_on}
 use Rattle.text.specs.Growth.{Added}
-use Rattle.text.proofs.Growing.{then, then_ok}
+use Rattle.text.proofs.Growing.{then_ok}
 use Rattle.rehearsal.specs.Tables.{letter_table, counts_row}
 use Rattle.rehearsal.proofs.show.push_letter.Goals as goal
 

@@ -9,5 +9,5 @@ returns-in_default c = record { does = sym (no_pass c.args.command c.args.answer
 pub returns-in_default-answer : goal.returns-in_default-answer
 returns-in_default-answer c = record { does = rw c.in-Pass.is (sym (not_fine _ c.args.answer _ _ c.in_default-answer.not-Fine)); goes = still; done = λ _. refl }
 
-pub returns-then-sender : goal.returns-then-sender
-returns-then-sender c = record { does = rw (c.in-Pass.is, c.in-Fine.is, c.if-sender.true); goes = still; done = λ _. refl }
+pub returns-then-sender-clause-goes : goal.returns-then-sender-clause-goes
+returns-then-sender-clause-goes c = still
