@@ -1,6 +1,5 @@
 // An answer as a line of text.
-ghost use Rattle.std.specs.Prelude.{string_bytes, OnOk};
-ghost use Rattle.text.specs.Growth.{Added};
+ghost use Rattle.text.specs.Growth.{Prints};
 ghost use Rattle.rehearsal.specs.Answers.{answer_line};
 
 use coins::answer::Answer;
@@ -9,7 +8,7 @@ use std::fmt::Write;
 
 // Puts an answer's line behind what is there.
 pub fn push_answer(out: &mut String, answer: Answer) -> Result<(), AllocError>
-    ensures { OnOk result (Added (string_bytes out.old) (string_bytes out.new) (answer_line answer)) }
+    ensures { Prints result out.old out.new (answer_line answer) }
 {
     match answer {
         Answer::Fine => out.push_str("ok\n"),

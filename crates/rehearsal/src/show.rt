@@ -1,6 +1,6 @@
 // The table of all letters that are open, and what is under way of them.
 ghost use Rattle.std.specs.Prelude.{◌≡◌, min, length, string_bytes, Some, IfOk, OnOk};
-ghost use Rattle.text.specs.Growth.{Added};
+ghost use Rattle.text.specs.Growth.{Prints};
 ghost use Rattle.stage.specs.Stages.{scene_on};
 ghost use Rattle.rehearsal.specs.Tables.{yes_or_no, helper_row, node_column, kind_column, bytes_column, mail_row, helper_rows, row_of, parcel_rows, headed, letter_table, table_of, tables, or_none, Sorted, Shown};
 
@@ -52,7 +52,7 @@ fn push_letters(
     stage: &Stage,
     numbers: &[u32],
 ) -> Result<(), AllocError>
-    ensures { OnOk result (Added (string_bytes out.old) (string_bytes out.new) (tables (scene_on stage.now) numbers.now)) }
+    ensures { Prints result out.old out.new (tables (scene_on stage.now) numbers.now) }
 {
     for number in numbers {
         push_open(heap, out, stage, *number)?;
@@ -63,7 +63,7 @@ fn push_letters(
 // A letter, or nothing where the number is 0.
 #[tactic(auto, unfolding(crate::specs::Tables::table_of))]
 fn push_open(heap: Global, out: &mut String, stage: &Stage, number: u32) -> Result<(), AllocError>
-    ensures { OnOk result (Added (string_bytes out.old) (string_bytes out.new) (table_of (scene_on stage.now) number)) }
+    ensures { Prints result out.old out.new (table_of (scene_on stage.now) number) }
 {
     if number > 0 {
         push_letter(heap, out, stage, LetterId { number })?;
@@ -77,7 +77,7 @@ fn push_letter(
     stage: &Stage,
     letter: LetterId,
 ) -> Result<(), AllocError>
-    ensures { OnOk result (Added (string_bytes out.old) (string_bytes out.new) (letter_table (scene_on stage.now) letter)) }
+    ensures { Prints result out.old out.new (letter_table (scene_on stage.now) letter) }
 {
     let boss = stage.boss();
     let given = boss.given(letter);
@@ -90,7 +90,7 @@ fn push_letter(
 
 #[tactic(auto, unfolding(crate::specs::Tables::helper_rows))]
 fn push_helpers(out: &mut String, stage: &Stage, letter: LetterId) -> Result<(), AllocError>
-    ensures { OnOk result (Added (string_bytes out.old) (string_bytes out.new) (helper_rows (scene_on stage.now).helpers letter (min (length (scene_on stage.now).helpers) 256))) }
+    ensures { Prints result out.old out.new (helper_rows (scene_on stage.now).helpers letter (min (length (scene_on stage.now).helpers) 256)) }
 {
     for i in 0..stage.helpers().min(256) {
         let helper = NodeId { number: i as u16 };
@@ -101,7 +101,7 @@ fn push_helpers(out: &mut String, stage: &Stage, letter: LetterId) -> Result<(),
 
 #[tactic(auto, using(text::proofs::Written::right_aligned, crate::proofs::Columns::work_is, crate::proofs::Columns::asked_is), unfolding(crate::specs::Tables::helper_row, crate::specs::Tables::coins_column))]
 fn push_helper(out: &mut String, helper: NodeId, holding: Holding) -> Result<(), AllocError>
-    ensures { OnOk result (Added (string_bytes out.old) (string_bytes out.new) (helper_row helper holding)) }
+    ensures { Prints result out.old out.new (helper_row helper holding) }
 {
     let number = helper.number;
     let coins = holding.coins;
@@ -123,7 +123,7 @@ fn push_parcels(
     parcels: &[Parcel],
     letter: LetterId,
 ) -> Result<(), AllocError>
-    ensures { OnOk result (Added (string_bytes out.old) (string_bytes out.new) (headed (parcel_rows letter parcels.now))) }
+    ensures { Prints result out.old out.new (headed (parcel_rows letter parcels.now)) }
 {
     let mut rows = String::new(heap);
     push_rows(&mut rows, parcels, letter)?;
@@ -135,7 +135,7 @@ fn push_parcels(
 
 #[tactic(auto, using(std::proofs::lemmas::List::take_more, std::proofs::lemmas::List::flat_map_more), unfolding(crate::specs::Tables::parcel_rows))]
 fn push_rows(out: &mut String, parcels: &[Parcel], letter: LetterId) -> Result<(), AllocError>
-    ensures { OnOk result (Added (string_bytes out.old) (string_bytes out.new) (parcel_rows letter parcels.now)) }
+    ensures { Prints result out.old out.new (parcel_rows letter parcels.now) }
 {
     for parcel in parcels {
         push_row(out, parcel, letter)?;
@@ -146,7 +146,7 @@ fn push_rows(out: &mut String, parcels: &[Parcel], letter: LetterId) -> Result<(
 // A message, if it is of the letter.
 #[tactic(auto, unfolding(crate::specs::Tables::row_of))]
 fn push_row(out: &mut String, parcel: &Parcel, letter: LetterId) -> Result<(), AllocError>
-    ensures { OnOk result (Added (string_bytes out.old) (string_bytes out.new) (row_of letter parcel.now)) }
+    ensures { Prints result out.old out.new (row_of letter parcel.now) }
 {
     if parcel.mail.letter.number == letter.number {
         push_mail(out, parcel.mail, parcel.work.bytes())?;
@@ -157,7 +157,7 @@ fn push_row(out: &mut String, parcel: &Parcel, letter: LetterId) -> Result<(), A
 // A message, and the bytes of its work.
 #[tactic(auto, using(text::proofs::Written::right_aligned), unfolding(crate::specs::Tables::mail_row, crate::specs::Tables::coins_column))]
 fn push_mail(out: &mut String, mail: Mail, bytes: &[u8]) -> Result<(), AllocError>
-    ensures { OnOk result (Added (string_bytes out.old) (string_bytes out.new) (mail_row mail bytes.now)) }
+    ensures { Prints result out.old out.new (mail_row mail bytes.now) }
 {
     let sender = Column(mail.sender);
     let receiver = Column(mail.receiver);

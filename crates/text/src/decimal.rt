@@ -1,6 +1,6 @@
 // Numbers in decimal, without a sign.
-ghost use Rattle.std.specs.Prelude.{◌≡◌, ◌+◌, ◌-◌, ◌*◌, ◌^◌, ◌<◌, ◌≤◌, true, false, ◌++◌, length, replicate, string_bytes, decimal, MatchOption, OnOk};
-ghost use Rattle.text.specs.Growth.{Added};
+ghost use Rattle.std.specs.Prelude.{◌≡◌, ◌+◌, ◌-◌, ◌*◌, ◌^◌, ◌<◌, ◌≤◌, true, false, ◌++◌, length, replicate, decimal, MatchOption};
+ghost use Rattle.text.specs.Growth.{Prints};
 ghost use Rattle.text.specs.Decimal.{is_digit, number_of};
 
 use std::alloc::AllocError;
@@ -40,7 +40,7 @@ pub fn number(text: &[u8]) -> Option<u64>
 
 // Puts a number's digits behind what is there.
 pub fn push_number(out: &mut String, number: u64) -> Result<(), AllocError>
-    ensures { OnOk result (Added (string_bytes out.old) (string_bytes out.new) (decimal number)) }
+    ensures { Prints result out.old out.new (decimal number) }
 {
     write!(out, "{number}")
 }
@@ -48,7 +48,7 @@ pub fn push_number(out: &mut String, number: u64) -> Result<(), AllocError>
 // Puts a number behind what is there, on the right of so many columns; a longer one takes what it needs.
 #[tactic(auto, using(crate::proofs::Written::right_aligned))]
 pub fn push_aligned(out: &mut String, number: u64, width: usize) -> Result<(), AllocError>
-    ensures { OnOk result (Added (string_bytes out.old) (string_bytes out.new) (replicate (width - length (decimal number)) 32 ++ decimal number)) }
+    ensures { Prints result out.old out.new (replicate (width - length (decimal number)) 32 ++ decimal number) }
 {
     write!(out, "{number:>width$}")
 }

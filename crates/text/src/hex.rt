@@ -1,6 +1,6 @@
 // Bytes in hexadecimal: two digits to a byte, the high one first; the digits are 0 to 9 and a to f.
-ghost use Rattle.std.specs.Prelude.{◌≡◌, ◌+◌, ◌*◌, ◌<◌, true, length, MatchResult, OnOk, string_bytes, slice_index};
-ghost use Rattle.text.specs.Growth.{Added};
+ghost use Rattle.std.specs.Prelude.{◌≡◌, ◌+◌, ◌*◌, ◌<◌, true, length, MatchResult, slice_index};
+ghost use Rattle.text.specs.Growth.{Prints};
 ghost use Rattle.text.specs.declared.hex.HexFault.TheVariants.{NoMemory};
 ghost use Rattle.text.specs.Hex.{hex_value, hex_digit, pair_of, bytes_of, is_hex_text, hex_of, Fails};
 
@@ -89,7 +89,7 @@ impl fmt::Display for Hex<'_> {
 
 // Puts the hexadecimal of the bytes behind what is there.
 pub fn push_hex(out: &mut String, bytes: &[u8]) -> Result<(), AllocError>
-    ensures { OnOk result (Added (string_bytes out.old) (string_bytes out.new) (hex_of bytes.now)) }
+    ensures { Prints result out.old out.new (hex_of bytes.now) }
 {
     write!(out, "{}", Hex(bytes))
 }
