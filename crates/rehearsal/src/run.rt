@@ -16,7 +16,7 @@ fn play_all<I: Read, O: Write>(
 ) -> io::Result<()> {
     let mut rehearsal = Rehearsal::new(heap)?;
     let mut line = Vec::new(heap);
-    // An input of unknown length is read by a loop with an end, and by lines without taking the rest of a chunk away.
+    // Input may have no end, so the loop has one; an iterator of lines would not tell whether a further line is at hand.
     for _ in 0..u64::MAX {
         line.clear();
         if input.read_until(b'\n', &mut line)? == 0 {

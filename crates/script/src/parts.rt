@@ -1,4 +1,5 @@
 // The parts of a line: each is read from the first word of a text, and what follows is handed on.
+// An iterator of words would be no plainer: the clauses speak of what follows.
 ghost use Rattle.std.specs.Prelude.{◌≡◌, ◌≤◌, true, false, MatchOption};
 ghost use Rattle.script.specs.Words.{has_word, rest_of};
 ghost use Rattle.script.specs.Parts.{is_to, number_in, is_letter, letter_in, node_named, is_helper, helper_in, is_node, node_in, name_of, is_speaker, is_work, work_in};
