@@ -20,20 +20,7 @@ pub(crate) fn push_stage(heap: Global, out: &mut String, stage: &Stage) -> Resul
     ensures { OnOk result (Shown (scene_on stage.now) (string_bytes out.old) (string_bytes out.new)) }
 {
     let numbers = open_letters(heap, stage.boss())?;
-    let mut letters = String::new(heap);
-    push_letters(heap, &mut letters, stage, &numbers)?;
-    out.push_str(or_none(letters.as_str()))
-}
-
-// The letters, or a line that says that there are none.
-fn or_none(letters: &str) -> &str
-    ensures { result.now ≡ or_none letters.now }
-{
-    if letters.is_empty() {
-        "no letter is open\n"
-    } else {
-        letters
-    }
+    push_letters(out, stage, &numbers)
 }
 
 // The numbers of the letters that are open, in their order; behind zeros for the places that are free.
@@ -45,47 +32,48 @@ fn open_letters(heap: Global, boss: &Boss) -> Result<Vec<u32>, AllocError>
     Ok(numbers)
 }
 
+// The letters, or a line that says that there are none.
+fn push_letters(out: &mut String, stage: &Stage, numbers: &[u32]) -> Result<(), AllocError>
+    ensures { Prints result out.old out.new (or_none (tables (scene_on stage.now) numbers.now)) }
+{
+    if numbers.iter().any(|number| *number > 0) {
+        push_each(out, stage, numbers)
+    } else {
+        writeln!(out, "no letter is open")
+    }
+}
+
 #[tactic(auto, using(std::proofs::lemmas::List::take_more, std::proofs::lemmas::List::flat_map_more), unfolding(crate::specs::Tables::tables))]
-fn push_letters(
-    heap: Global,
-    out: &mut String,
-    stage: &Stage,
-    numbers: &[u32],
-) -> Result<(), AllocError>
+fn push_each(out: &mut String, stage: &Stage, numbers: &[u32]) -> Result<(), AllocError>
     ensures { Prints result out.old out.new (tables (scene_on stage.now) numbers.now) }
 {
     for number in numbers {
-        push_open(heap, out, stage, *number)?;
+        push_open(out, stage, *number)?;
     }
     Ok(())
 }
 
 // A letter, or nothing where the number is 0.
 #[tactic(auto, unfolding(crate::specs::Tables::table_of))]
-fn push_open(heap: Global, out: &mut String, stage: &Stage, number: u32) -> Result<(), AllocError>
+fn push_open(out: &mut String, stage: &Stage, number: u32) -> Result<(), AllocError>
     ensures { Prints result out.old out.new (table_of (scene_on stage.now) number) }
 {
     if number > 0 {
-        push_letter(heap, out, stage, LetterId { number })?;
+        push_letter(out, stage, LetterId { number })?;
     }
     Ok(())
 }
 
-fn push_letter(
-    heap: Global,
-    out: &mut String,
-    stage: &Stage,
-    letter: LetterId,
-) -> Result<(), AllocError>
+fn push_letter(out: &mut String, stage: &Stage, letter: LetterId) -> Result<(), AllocError>
     ensures { Prints result out.old out.new (letter_table (scene_on stage.now) letter) }
 {
     let boss = stage.boss();
     let given = boss.given(letter);
     let back = boss.back(letter);
     writeln!(out, "letter {}: given {given}, back {back}", letter.number)?;
-    out.push_str("  helper       coins  at work  asked\n")?;
+    writeln!(out, "  helper       coins  at work  asked")?;
     push_helpers(out, stage, letter)?;
-    push_parcels(heap, out, stage.parcels(), letter)
+    push_parcels(out, stage.parcels(), letter)
 }
 
 #[tactic(auto, unfolding(crate::specs::Tables::helper_rows))]
@@ -117,20 +105,17 @@ fn yes(is: bool) -> &'static str
 }
 
 // What is under way of a letter, the oldest first.
-fn push_parcels(
-    heap: Global,
-    out: &mut String,
-    parcels: &[Parcel],
-    letter: LetterId,
-) -> Result<(), AllocError>
+fn push_parcels(out: &mut String, parcels: &[Parcel], letter: LetterId) -> Result<(), AllocError>
     ensures { Prints result out.old out.new (headed (parcel_rows letter parcels.now)) }
 {
-    let mut rows = String::new(heap);
-    push_rows(&mut rows, parcels, letter)?;
-    if rows.is_empty() {
-        return Ok(());
+    if parcels
+        .iter()
+        .any(|p| p.mail.letter.number == letter.number)
+    {
+        writeln!(out, "  from    to  kind       coins  bytes")?;
+        push_rows(out, parcels, letter)?;
     }
-    write!(out, "  from    to  kind       coins  bytes\n{rows}")
+    Ok(())
 }
 
 #[tactic(auto, using(std::proofs::lemmas::List::take_more, std::proofs::lemmas::List::flat_map_more), unfolding(crate::specs::Tables::parcel_rows))]
