@@ -1,3 +1,4 @@
 mod Acted
 mod Headings
-mod Rows
+mod Columns
+mod Behind

@@ -1,5 +1,5 @@
 // A rehearsal: a stage on which a script is played, line by line.
-ghost use Rattle.std.specs.Prelude.{◌≡◌, true, false, IfOk, MatchOption, MatchResult, OnOk};
+ghost use Rattle.std.specs.Prelude.{◌≡◌, true, false, IfOk, string_bytes, MatchOption, MatchResult, OnOk};
 ghost use Rattle.script.specs.Lines.{is_line, line_in, play, settle, show, new};
 ghost use Rattle.text.specs.Hex.{bytes_of};
 ghost use Rattle.coins.specs.Works.{no_work, bytes_of as work_bytes};
@@ -119,8 +119,8 @@ impl Rehearsal {
     }
 
     // Plays a command of a line, and puts its answer behind what is there.
-    fn tell(&mut self, command: Command, hex: &[u8], out: &mut Vec<u8>) -> Result<(), AllocError>
-        ensures does { OnOk result (Does true (play command hex.now) self.old self.new out.old.items out.new.items) }
+    fn tell(&mut self, command: Command, hex: &[u8], out: &mut String) -> Result<(), AllocError>
+        ensures does { OnOk result (Does true (play command hex.now) self.old self.new (string_bytes out.old) (string_bytes out.new)) }
         ensures goes { Runs (world self.old) (world self.new) }
     {
         let answer = self.play(command, hex)?;
@@ -128,32 +128,32 @@ impl Rehearsal {
     }
 
     // Messages come until none is left.
-    fn settle(&mut self, out: &mut Vec<u8>) -> Result<(), AllocError>
-        ensures does { OnOk result (Does true settle self.old self.new out.old.items out.new.items) }
+    fn settle(&mut self, out: &mut String) -> Result<(), AllocError>
+        ensures does { OnOk result (Does true settle self.old self.new (string_bytes out.old) (string_bytes out.new)) }
         ensures goes { Runs (world self.old) (world self.new) }
     {
         self.stage.settle()?;
         push_answer(out, Answer::Fine)
     }
 
-    fn restart(&mut self, helpers: u16, out: &mut Vec<u8>) -> Result<(), AllocError>
+    fn restart(&mut self, helpers: u16, out: &mut String) -> Result<(), AllocError>
         ensures starts { OnOk result (world self.new ≡ start helpers) }
-        ensures does { OnOk result (Does true (new helpers) self.old self.new out.old.items out.new.items) }
+        ensures does { OnOk result (Does true (new helpers) self.old self.new (string_bytes out.old) (string_bytes out.new)) }
     {
         self.stage = staged(self.heap, helpers)?;
         push_answer(out, Answer::Fine)
     }
 
-    fn show(&self, out: &mut Vec<u8>) -> Result<(), AllocError>
-        ensures { OnOk result (Does true show self.now self.now out.old.items out.new.items) }
+    fn show(&self, out: &mut String) -> Result<(), AllocError>
+        ensures { OnOk result (Does true show self.now self.now (string_bytes out.old) (string_bytes out.new)) }
     {
         push_stage(self.heap, out, &self.stage)?;
         push_answer(out, Answer::Fine)
     }
 
     // Plays a line, and puts what is shown and answered behind what is there.
-    pub fn step(&mut self, line: &[u8], out: &mut Vec<u8>) -> Result<(), AllocError>
-        ensures does { OnOk result (Does (is_line line.now) (line_in line.now) self.old self.new out.old.items out.new.items) }
+    fn say(&mut self, line: &[u8], out: &mut String) -> Result<(), AllocError>
+        ensures does { OnOk result (Does (is_line line.now) (line_in line.now) self.old self.new (string_bytes out.old) (string_bytes out.new)) }
         ensures turns { OnOk result (Turns (is_line line.now) (line_in line.now) (world self.old) (world self.new)) }
     {
         match read(line) {
@@ -164,5 +164,16 @@ impl Rehearsal {
             Some(Line::New { helpers }) => self.restart(helpers, out),
             None => push_answer(out, Answer::Refused(Refusal::Malformed)),
         }
+    }
+
+    // Plays a line, and puts what is shown and answered behind what is there, whatever bytes that is.
+    pub fn step(&mut self, line: &[u8], out: &mut Vec<u8>) -> Result<(), AllocError>
+        ensures does { OnOk result (Does (is_line line.now) (line_in line.now) self.old self.new out.old.items out.new.items) }
+        ensures turns { OnOk result (Turns (is_line line.now) (line_in line.now) (world self.old) (world self.new)) }
+    {
+        let mut said = String::new(self.heap);
+        self.say(line, &mut said)?;
+        out.extend_from_slice(said.as_bytes())?;
+        Ok(())
     }
 }

@@ -16,6 +16,7 @@ fn play_all<I: Read, O: Write>(
 ) -> io::Result<()> {
     let mut rehearsal = Rehearsal::new(heap)?;
     let mut line = Vec::new(heap);
+    // Input may have no end, so the loop has one; an iterator of lines would not tell whether a further line is at hand.
     for _ in 0..u64::MAX {
         line.clear();
         if input.read_until(b'\n', &mut line)? == 0 {

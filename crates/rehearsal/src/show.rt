@@ -1,7 +1,7 @@
 // The table of all letters that are open, and what is under way of them.
-ghost use Rattle.std.specs.Prelude.{◌≡◌, min, length, IfOk, OnOk};
-ghost use Rattle.text.specs.Growth.{Added};
-ghost use Rattle.rehearsal.specs.Tables.{coins_column, counts_row, work_column, asked_column, helper_row, node_column, kind_column, bytes_column, mail_row, helper_rows, row_of, parcel_rows, headed, letter_table, table_of, tables, or_none, Sorted, Shown};
+ghost use Rattle.std.specs.Prelude.{◌≡◌, min, length, string_bytes, Some, IfOk, OnOk};
+ghost use Rattle.text.specs.Growth.{Prints};
+ghost use Rattle.rehearsal.specs.Tables.{yes_or_no, helper_row, node_column, kind_column, bytes_column, mail_row, helper_rows, row_of, parcel_rows, headed, letter_table, table_of, tables, or_none, Sorted, Shown};
 
 use boss_coins::boss::Boss;
 use coins::ids::{BOSS, LetterId, NodeId};
@@ -10,30 +10,16 @@ use coins::parcel::Parcel;
 use helper_coins::holding::Holding;
 use stage::stage::Stage;
 use std::alloc::{AllocError, Global};
-use text::decimal::{push_aligned, push_number};
-use text::hex::push_hex;
-use text::plain::push_text;
+use std::fmt;
+use std::fmt::Write;
+use text::hex::Hex;
 
 // Puts the table of all open letters behind what is there, by their numbers.
-pub(crate) fn push_stage(heap: Global, out: &mut Vec<u8>, stage: &Stage) -> Result<(), AllocError>
-    ensures { OnOk result (Shown stage.now out.old.items out.new.items) }
+pub(crate) fn push_stage(heap: Global, out: &mut String, stage: &Stage) -> Result<(), AllocError>
+    ensures { OnOk result (Shown stage.now (string_bytes out.old) (string_bytes out.new)) }
 {
     let numbers = open_letters(heap, stage.boss())?;
-    let mut letters = Vec::new(heap);
-    push_letters(heap, &mut letters, stage, &numbers)?;
-    push_text(out, or_none(&letters))?;
-    Ok(())
-}
-
-// The letters, or a line that says that there are none.
-fn or_none(letters: &[u8]) -> &[u8]
-    ensures { result.now ≡ or_none letters.now }
-{
-    if letters.is_empty() {
-        b"no letter is open\n"
-    } else {
-        letters
-    }
+    push_letters(out, stage, &numbers)
 }
 
 // The numbers of the letters that are open, in their order; behind zeros for the places that are free.
@@ -45,61 +31,53 @@ fn open_letters(heap: Global, boss: &Boss) -> Result<Vec<u32>, AllocError>
     Ok(numbers)
 }
 
-fn push_letters(
-    heap: Global,
-    out: &mut Vec<u8>,
-    stage: &Stage,
-    numbers: &[u32],
-) -> Result<(), AllocError>
-    ensures { OnOk result (Added out.old.items out.new.items (tables stage.now numbers.now)) }
+// The letters, or a line that says that there are none.
+fn push_letters(out: &mut String, stage: &Stage, numbers: &[u32]) -> Result<(), AllocError>
+    ensures { Prints result out.old out.new (or_none (tables stage.now numbers.now)) }
+{
+    if numbers.iter().any(|number| *number > 0) {
+        push_each(out, stage, numbers)
+    } else {
+        writeln!(out, "no letter is open")
+    }
+}
+
+#[tactic(auto, using(std::proofs::lemmas::List::take_more, std::proofs::lemmas::List::flat_map_more), unfolding(crate::specs::Tables::tables))]
+fn push_each(out: &mut String, stage: &Stage, numbers: &[u32]) -> Result<(), AllocError>
+    ensures { Prints result out.old out.new (tables stage.now numbers.now) }
 {
     for number in numbers {
-        push_open(heap, out, stage, *number)?;
+        push_open(out, stage, *number)?;
     }
     Ok(())
 }
 
 // A letter, or nothing where the number is 0.
-fn push_open(heap: Global, out: &mut Vec<u8>, stage: &Stage, number: u32) -> Result<(), AllocError>
-    ensures { OnOk result (Added out.old.items out.new.items (table_of stage.now number)) }
+#[tactic(auto, unfolding(crate::specs::Tables::table_of))]
+fn push_open(out: &mut String, stage: &Stage, number: u32) -> Result<(), AllocError>
+    ensures { Prints result out.old out.new (table_of stage.now number) }
 {
     if number > 0 {
-        push_letter(heap, out, stage, LetterId { number })?;
+        push_letter(out, stage, LetterId { number })?;
     }
     Ok(())
 }
 
-fn push_letter(
-    heap: Global,
-    out: &mut Vec<u8>,
-    stage: &Stage,
-    letter: LetterId,
-) -> Result<(), AllocError>
-    ensures { OnOk result (Added out.old.items out.new.items (letter_table stage.now letter)) }
+fn push_letter(out: &mut String, stage: &Stage, letter: LetterId) -> Result<(), AllocError>
+    ensures { Prints result out.old out.new (letter_table stage.now letter) }
 {
     let boss = stage.boss();
-    push_counts(out, letter, boss.given(letter), boss.back(letter))?;
-    push_text(out, b"  helper       coins  at work  asked\n")?;
+    let given = boss.given(letter);
+    let back = boss.back(letter);
+    writeln!(out, "letter {}: given {given}, back {back}", letter.number)?;
+    writeln!(out, "  helper       coins  at work  asked")?;
     push_helpers(out, stage, letter)?;
-    push_parcels(heap, out, stage.parcels(), letter)?;
-    Ok(())
+    push_parcels(out, stage.parcels(), letter)
 }
 
-fn push_counts(out: &mut Vec<u8>, letter: LetterId, given: u64, back: u64) -> Result<(), AllocError>
-    ensures { OnOk result (Added out.old.items out.new.items (counts_row letter given back)) }
-{
-    push_text(out, b"letter ")?;
-    push_number(out, letter.number as u64)?;
-    push_text(out, b": given ")?;
-    push_number(out, given)?;
-    push_text(out, b", back ")?;
-    push_number(out, back)?;
-    push_text(out, b"\n")?;
-    Ok(())
-}
-
-fn push_helpers(out: &mut Vec<u8>, stage: &Stage, letter: LetterId) -> Result<(), AllocError>
-    ensures { OnOk result (Added out.old.items out.new.items (helper_rows stage.now.helpers letter (min (length stage.now.helpers) 256))) }
+#[tactic(auto, unfolding(crate::specs::Tables::helper_rows))]
+fn push_helpers(out: &mut String, stage: &Stage, letter: LetterId) -> Result<(), AllocError>
+    ensures { Prints result out.old out.new (helper_rows stage.now.helpers letter (min (length stage.now.helpers) 256)) }
 {
     for i in 0..stage.helpers().min(256) {
         let helper = NodeId { number: i as u16 };
@@ -108,61 +86,37 @@ fn push_helpers(out: &mut Vec<u8>, stage: &Stage, letter: LetterId) -> Result<()
     Ok(())
 }
 
-fn push_helper(out: &mut Vec<u8>, helper: NodeId, holding: Holding) -> Result<(), AllocError>
-    ensures { OnOk result (Added out.old.items out.new.items (helper_row helper holding)) }
+#[tactic(auto, using(text::proofs::Written::right_aligned, crate::proofs::Columns::work_is, crate::proofs::Columns::asked_is), unfolding(crate::specs::Tables::helper_row, crate::specs::Tables::coins_column))]
+fn push_helper(out: &mut String, helper: NodeId, holding: Holding) -> Result<(), AllocError>
+    ensures { Prints result out.old out.new (helper_row helper holding) }
 {
-    push_aligned(out, helper.number as u64, 8)?;
-    push_coins(out, holding.coins)?;
-    push_text(out, work_column(holding.working))?;
-    push_text(out, asked_column(holding.asked))?;
-    push_text(out, b"\n")?;
-    Ok(())
+    let number = helper.number;
+    let coins = holding.coins;
+    let working = yes(holding.working);
+    let asked = yes(holding.asked);
+    writeln!(out, "{number:>8}  {coins:>10}  {working:<7}  {asked}")
 }
 
-// Whether a helper is at work, with two spaces before it, in nine columns.
-fn work_column(working: bool) -> &'static [u8]
-    ensures { result.now ≡ work_column working }
+fn yes(is: bool) -> &'static str
+    ensures { result.now ≡ yes_or_no is }
 {
-    if working { b"  yes    " } else { b"  no     " }
-}
-
-// Whether it has asked for more, with two spaces before it.
-fn asked_column(asked: bool) -> &'static [u8]
-    ensures { result.now ≡ asked_column asked }
-{
-    if asked { b"  yes" } else { b"  no" }
-}
-
-// Two spaces, and coins on the right of ten columns.
-fn push_coins(out: &mut Vec<u8>, coins: u64) -> Result<(), AllocError>
-    ensures { OnOk result (Added out.old.items out.new.items (coins_column coins)) }
-{
-    push_text(out, b"  ")?;
-    push_aligned(out, coins, 10)?;
-    Ok(())
+    if is { "yes" } else { "no" }
 }
 
 // What is under way of a letter, the oldest first.
-fn push_parcels(
-    heap: Global,
-    out: &mut Vec<u8>,
-    parcels: &[Parcel],
-    letter: LetterId,
-) -> Result<(), AllocError>
-    ensures { OnOk result (Added out.old.items out.new.items (headed (parcel_rows letter parcels.now))) }
+fn push_parcels(out: &mut String, parcels: &[Parcel], letter: LetterId) -> Result<(), AllocError>
+    ensures { Prints result out.old out.new (headed (parcel_rows letter parcels.now)) }
 {
-    let mut rows = Vec::new(heap);
-    push_rows(&mut rows, parcels, letter)?;
-    if rows.is_empty() {
-        return Ok(());
+    if parcels.iter().any(|parcel| parcel.mail.letter == letter) {
+        writeln!(out, "  from    to  kind       coins  bytes")?;
+        push_rows(out, parcels, letter)?;
     }
-    push_text(out, b"  from    to  kind       coins  bytes\n")?;
-    push_text(out, &rows)?;
     Ok(())
 }
 
-fn push_rows(out: &mut Vec<u8>, parcels: &[Parcel], letter: LetterId) -> Result<(), AllocError>
-    ensures { OnOk result (Added out.old.items out.new.items (parcel_rows letter parcels.now)) }
+#[tactic(auto, using(std::proofs::lemmas::List::take_more, std::proofs::lemmas::List::flat_map_more), unfolding(crate::specs::Tables::parcel_rows))]
+fn push_rows(out: &mut String, parcels: &[Parcel], letter: LetterId) -> Result<(), AllocError>
+    ensures { Prints result out.old out.new (parcel_rows letter parcels.now) }
 {
     for parcel in parcels {
         push_row(out, parcel, letter)?;
@@ -171,61 +125,73 @@ fn push_rows(out: &mut Vec<u8>, parcels: &[Parcel], letter: LetterId) -> Result<
 }
 
 // A message, if it is of the letter.
-fn push_row(out: &mut Vec<u8>, parcel: &Parcel, letter: LetterId) -> Result<(), AllocError>
-    ensures { OnOk result (Added out.old.items out.new.items (row_of letter parcel.now)) }
+#[tactic(auto, unfolding(crate::specs::Tables::row_of))]
+fn push_row(out: &mut String, parcel: &Parcel, letter: LetterId) -> Result<(), AllocError>
+    ensures { Prints result out.old out.new (row_of letter parcel.now) }
 {
-    if parcel.mail.letter.number == letter.number {
+    if parcel.mail.letter == letter {
         push_mail(out, parcel.mail, parcel.work.as_slice())?;
     }
     Ok(())
 }
 
 // A message, and the bytes of its work.
-fn push_mail(out: &mut Vec<u8>, mail: Mail, bytes: &[u8]) -> Result<(), AllocError>
-    ensures { OnOk result (Added out.old.items out.new.items (mail_row mail bytes.now)) }
+#[tactic(auto, using(text::proofs::Written::right_aligned), unfolding(crate::specs::Tables::mail_row, crate::specs::Tables::coins_column))]
+fn push_mail(out: &mut String, mail: Mail, bytes: &[u8]) -> Result<(), AllocError>
+    ensures { Prints result out.old out.new (mail_row mail bytes.now) }
 {
-    push_node(out, mail.sender)?;
-    push_node(out, mail.receiver)?;
-    push_text(out, kind_column(mail.kind))?;
-    push_coins(out, mail.kind.coins())?;
-    push_bytes(out, bytes)?;
-    push_text(out, b"\n")?;
-    Ok(())
+    let sender = Column(mail.sender);
+    let receiver = Column(mail.receiver);
+    let kind = kind_column(mail.kind);
+    let coins = mail.kind.coins();
+    let bytes = Bytes(bytes);
+    writeln!(out, "{sender}{receiver}{kind}  {coins:>10}{bytes}")
 }
 
 // A helper's number, or `boss`, on the right of six columns.
-fn push_node(out: &mut Vec<u8>, node: NodeId) -> Result<(), AllocError>
-    ensures { OnOk result (Added out.old.items out.new.items (node_column node)) }
-{
-    if node.number == BOSS {
-        push_text(out, b"  boss")?;
-    } else {
-        push_aligned(out, node.number as u64, 6)?;
+#[derive(Clone, Copy)]
+struct Column(NodeId);
+
+impl fmt::Display for Column {
+    ghost output = { λ c. Some (node_column c.0) };
+
+    #[tactic(auto, using(text::proofs::Written::right_aligned), unfolding(crate::specs::Tables::node_column))]
+    fn fmt<W: fmt::Write>(&self, f: &mut fmt::Formatter<W>) -> fmt::Result {
+        let number = self.0.number;
+        if number == BOSS {
+            write!(f, "  boss")
+        } else {
+            write!(f, "{number:>6}")
+        }
     }
-    Ok(())
 }
 
 // The name of a kind, with two spaces before it, in six columns.
-fn kind_column(kind: Kind) -> &'static [u8]
+fn kind_column(kind: Kind) -> &'static str
     ensures { result.now ≡ kind_column kind }
 {
     match kind {
-        Kind::Work(_) => b"  work",
-        Kind::More(_) => b"  more",
-        Kind::Back(_) => b"  back",
-        Kind::NoMore => b"  none",
-        Kind::Ask => b"  ask ",
+        Kind::Work(_) => "  work",
+        Kind::More(_) => "  more",
+        Kind::Back(_) => "  back",
+        Kind::NoMore => "  none",
+        Kind::Ask => "  ask ",
     }
 }
 
 // Two spaces and bytes in hexadecimal, where there are some.
-fn push_bytes(out: &mut Vec<u8>, bytes: &[u8]) -> Result<(), AllocError>
-    ensures { OnOk result (Added out.old.items out.new.items (bytes_column bytes.now)) }
-{
-    if bytes.is_empty() {
-        return Ok(());
+#[derive(Clone, Copy)]
+struct Bytes<'a>(&'a [u8]);
+
+impl fmt::Display for Bytes<'_> {
+    ghost output = { λ b. Some (bytes_column b.0.now) };
+
+    #[tactic(auto, unfolding(crate::specs::Tables::bytes_column))]
+    fn fmt<W: fmt::Write>(&self, f: &mut fmt::Formatter<W>) -> fmt::Result {
+        let bytes = self.0;
+        if bytes.is_empty() {
+            return Ok(());
+        }
+        write!(f, "  {}", Hex(bytes))
     }
-    push_text(out, b"  ")?;
-    push_hex(out, bytes)?;
-    Ok(())
 }

@@ -1,1 +1,1 @@
-pub mod Fronts
+mod Fronts

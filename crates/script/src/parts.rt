@@ -1,4 +1,5 @@
 // The parts of a line: each is read from the first word of a text, and what follows is handed on.
+// An iterator of words would be no plainer: the clauses speak of what follows.
 ghost use Rattle.std.specs.Prelude.{◌≡◌, ◌≤◌, true, false, MatchOption};
 ghost use Rattle.script.specs.Words.{has_word, rest_of};
 ghost use Rattle.script.specs.Parts.{is_to, number_in, is_letter, letter_in, node_named, is_helper, helper_in, is_node, node_in, name_of, is_speaker, is_work, work_in};
@@ -17,36 +18,25 @@ pub(crate) fn end(text: &[u8]) -> Option<()>
     }
 }
 
-// A word as a number that is at most so much.
-pub(crate) fn number_to(word: &[u8], most: u64) -> Option<u64>
-    ensures { MatchOption result (is_to most word.now ≡ false) (λ n. (is_to most word.now ≡ true) × (n ≡ number_in word.now) × (n ≤ most)) }
-{
-    let n = number(word)?;
-    if n <= most { Some(n) } else { None }
-}
-
 // A word as a helper's number, at most 255.
+#[tactic(auto, unfolding(crate::specs::Parts::is_to, crate::specs::Parts::number_in))]
 fn helper_named(word: &[u8]) -> Option<NodeId>
     ensures { MatchOption result (is_to 255 word.now ≡ false) (λ i. (is_to 255 word.now ≡ true) × (i ≡ node_named word.now)) }
 {
-    let number = number_to(word, 255)?;
+    let number = u8::try_from(number(word)?).ok()?;
     Some(NodeId {
-        number: number as u16,
+        number: u16::from(number),
     })
 }
 
 // A letter's number.
+#[tactic(auto, unfolding(crate::specs::Parts::is_to, crate::specs::Parts::number_in))]
 pub(crate) fn letter(text: &[u8]) -> Option<(LetterId, &[u8])>
     ensures { MatchOption result (is_letter text.now ≡ false) (λ p. (is_letter text.now ≡ true) × (p.0 ≡ letter_in text.now) × (p.1.now ≡ rest_of text.now)) }
 {
     let (word, rest) = split(text)?;
-    let number = number_to(word, u32::MAX as u64)?;
-    Some((
-        LetterId {
-            number: number as u32,
-        },
-        rest,
-    ))
+    let number = u32::try_from(number(word)?).ok()?;
+    Some((LetterId { number }, rest))
 }
 
 // A helper's number.

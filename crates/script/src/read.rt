@@ -1,60 +1,32 @@
 // Reads a line.
-ghost use Rattle.script.specs.Lines.{Reads, is_give, give as give_in, is_say, say as say_in, share as share_in, rest as rest_in, is_boss_line, boss_line, is_helper_line, helper_line, is_pass, pass as pass_in, is_new, afresh as new_in, can_begin, begin as begin_in, is_line, line_in};
+ghost use Rattle.std.specs.Prelude.{◌≡◌, true, false, MatchOption};
+ghost use Rattle.script.specs.Words.{rest_of};
+ghost use Rattle.script.specs.Parts.{letter_in, helper_in, work_in};
+ghost use Rattle.script.specs.Lines.{Reads, is_give, is_say, is_boss_line, boss_line, is_helper_line, helper_line, is_pass, pass as pass_in, is_new, afresh as new_in, can_begin, begin as begin_in, is_line, line_in};
 
 use crate::line::{HELPERS, Line};
-use crate::parts::{end, helper, letter, node, number_to, speaker, work};
+use crate::parts::{end, helper, letter, node, speaker, work};
 use crate::words::{code, is, split};
-use coins::ids::NodeId;
+use coins::ids::{LetterId, NodeId};
 use stage::command::Command;
+use text::decimal::number;
 
-// `give L I [HEX]`, from its letter on.
-fn give(text: &[u8]) -> Option<Line<'_>>
-    ensures { Reads result (is_give text.now) (give_in text.now) }
+// What follows `give` and `share`: a letter, a helper and the hexadecimal of work.
+fn work_for(text: &[u8]) -> Option<(LetterId, NodeId, &[u8])>
+    ensures { MatchOption result (is_give text.now ≡ false) (λ p. (is_give text.now ≡ true) × (p.0 ≡ letter_in text.now) × (p.1 ≡ helper_in (rest_of text.now)) × (p.2.now ≡ work_in (rest_of (rest_of text.now)))) }
 {
     let (letter, text) = letter(text)?;
     let (to, text) = helper(text)?;
-    let hex = work(text)?;
-    Some(Line::Play {
-        command: Command::Give { letter, to },
-        hex,
-    })
+    Some((letter, to, work(text)?))
 }
 
-// `say L`, from its letter on.
-fn say(text: &[u8]) -> Option<Line<'_>>
-    ensures { Reads result (is_say text.now) (say_in text.now) }
+// What follows `say` and `rest`: a letter alone.
+fn letter_alone(text: &[u8]) -> Option<LetterId>
+    ensures { MatchOption result (is_say text.now ≡ false) (λ l. (is_say text.now ≡ true) × (l ≡ letter_in text.now)) }
 {
     let (letter, text) = letter(text)?;
     end(text)?;
-    Some(Line::Play {
-        command: Command::Say { letter },
-        hex: b"",
-    })
-}
-
-// `share L J [HEX]`, from its letter on.
-fn share(by: NodeId, text: &[u8]) -> Option<Line<'_>>
-    ensures { Reads result (is_give text.now) (share_in by text.now) }
-{
-    let (letter, text) = letter(text)?;
-    let (to, text) = helper(text)?;
-    let hex = work(text)?;
-    Some(Line::Play {
-        command: Command::Share { by, letter, to },
-        hex,
-    })
-}
-
-// `rest L`, from its letter on.
-fn rest(by: NodeId, text: &[u8]) -> Option<Line<'_>>
-    ensures { Reads result (is_say text.now) (rest_in by text.now) }
-{
-    let (letter, text) = letter(text)?;
-    end(text)?;
-    Some(Line::Play {
-        command: Command::Rest { by, letter },
-        hex: b"",
-    })
+    Some(letter)
 }
 
 // What follows `boss:`.
@@ -63,9 +35,13 @@ fn boss_line(text: &[u8]) -> Option<Line<'_>>
 {
     let (word, text) = split(text)?;
     if is(word, b"give") {
-        give(text)
+        let (letter, to, hex) = work_for(text)?;
+        let command = Command::Give { letter, to };
+        Some(Line::Play { command, hex })
     } else if is(word, b"say") {
-        say(text)
+        let letter = letter_alone(text)?;
+        let command = Command::Say { letter };
+        Some(Line::Play { command, hex: b"" })
     } else {
         None
     }
@@ -78,9 +54,13 @@ fn helper_line<'a>(first: &[u8], text: &'a [u8]) -> Option<Line<'a>>
     let by = speaker(first)?;
     let (word, text) = split(text)?;
     if is(word, b"share") {
-        share(by, text)
+        let (letter, to, hex) = work_for(text)?;
+        let command = Command::Share { by, letter, to };
+        Some(Line::Play { command, hex })
     } else if is(word, b"rest") {
-        rest(by, text)
+        let letter = letter_alone(text)?;
+        let command = Command::Rest { by, letter };
+        Some(Line::Play { command, hex: b"" })
     } else {
         None
     }
@@ -103,15 +83,14 @@ fn pass(text: &[u8]) -> Option<Line<'_>>
 }
 
 // What follows `new`.
+#[tactic(auto, unfolding(crate::specs::Parts::is_to, crate::specs::Parts::number_in))]
 fn new(text: &[u8]) -> Option<Line<'_>>
     ensures { Reads result (is_new text.now) (new_in text.now) }
 {
     let (word, text) = split(text)?;
     end(text)?;
-    let helpers = number_to(word, HELPERS as u64)?;
-    Some(Line::New {
-        helpers: helpers as u16,
-    })
+    let helpers = u16::try_from(number(word)?).ok().filter(|n| *n <= HELPERS)?;
+    Some(Line::New { helpers })
 }
 
 // A line by its first word.

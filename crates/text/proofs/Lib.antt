@@ -1,5 +1,5 @@
 pub mod Growing
 pub mod Values
 pub mod Pairs
-pub mod Spaces
 pub mod Back
+pub mod Written

@@ -1,13 +1,8 @@
--- Pairs of digits from some place on, one pair further.
-use Rattle.std.proofs.Common.{◌≡◌, ℕ, ◌+◌, ◌*◌, ◌%◌, ◌<◌, ◌≤◌, Bool, true, false, cond, ◌&&◌, List, [], ◌∷◌, ◌++◌, length, get_or, drop, Some, None, sym, refl, ap, ◌∙◌, arith}
-use Rattle.std.proofs.lemmas.List.{append_assoc, drop_more, at_drop_all}
+-- The first pair of digits, and those after it.
+use Rattle.std.proofs.Common.{◌≡◌, ◌≢◌, ℕ, ◌-◌, ◌%◌, ◌<◌, ◌≤◌, Bool, true, false, cond, ◌&&◌, List, [], ◌∷◌, ◌++◌, length, get_or, take, drop, Some, None, sym, refl, ap, ◌∙◌, arith}
+use Rattle.std.proofs.lemmas.List.{append_assoc, take_all, length-take, length-drop, append-nil}
+use Rattle.std.proofs.lemmas.Bool.Decides.{nat_tests}
 use Rattle.text.specs.Hex.{is_hex, all_hex, byte_of, bytes_of, is_hex_text}
-
-both : (a b r : Bool) → (a && b) ≡ true → (a && (b && r)) ≡ r
-both a b r e = grind arith
-
-either : (a b r : Bool) → (a && b) ≡ false → (a && (b && r)) ≡ false
-either a b r e = grind arith
 
 -- what a pair gives, from either side
 pub some_cond : (t : Bool) (x v : ℕ) → Some x ≡ cond t (Some v) None → (t ≡ true) × (x ≡ v)
@@ -18,44 +13,67 @@ pub none_cond : (t : Bool) (v : ℕ) → None ≡ cond t (Some v) None → t ≡
 none_cond true v e = absurd (let z : ◌≡◌ {A = ℕ} 0 1 = cc in omega arith)
 none_cond false v e = refl
 
-two_more : (xs : List ℕ) (i : ℕ) → i + 1 < length xs → drop i xs ≡ get_or xs i 0 ∷ get_or xs (i + 1) 0 ∷ drop (i + 2) xs
-two_more xs i h =
-    let first : drop i xs ≡ get_or xs i 0 ∷ drop (i + 1) xs = drop_more xs i 0 (omega arith) in
-    let next : drop (i + 1) xs ≡ get_or xs (i + 1) 0 ∷ drop (i + 1 + 1) xs = drop_more xs (i + 1) 0 h in
-    let same : i + 1 + 1 ≡ i + 2 = omega arith in
-    first ∙ ap (λ ys. get_or xs i 0 ∷ ys) (rw same at next)
+-- what is left of a list behind its first two
+abbrev pub behind_two : List ℕ → List ℕ
+behind_two xs = take (length xs - 2) (drop 2 xs)
 
-pub bytes_more : (xs : List ℕ) (i : ℕ) → i + 1 < length xs → bytes_of (drop i xs) ≡ byte_of (get_or xs i 0) (get_or xs (i + 1) 0) ∷ bytes_of (drop (i + 2) xs)
+pub two_more : (xs : List ℕ) → 2 ≤ length xs → xs ≡ get_or xs 0 0 ∷ get_or xs 1 0 ∷ behind_two xs
+two_more [] h = absurd (omega arith)
+two_more (a ∷ []) h = absurd (omega arith)
+two_more (a ∷ b ∷ rest) h = ap (λ ys. a ∷ b ∷ ys) (sym (take_all (length (a ∷ b ∷ rest) - 2) rest (omega arith)))
+
+pub bytes_more : (xs : List ℕ) → 2 ≤ length xs → bytes_of xs ≡ byte_of (get_or xs 0 0) (get_or xs 1 0) ∷ bytes_of (behind_two xs)
 unfolding bytes_of
-bytes_more xs i h = ap (λ ys. bytes_of ys) (two_more xs i h)
+bytes_more xs h = ap (λ ys. bytes_of ys) (two_more xs h)
 
-pub bytes_all : (xs : List ℕ) (i : ℕ) → length xs ≤ i → bytes_of (drop i xs) ≡ []
-unfolding bytes_of
-bytes_all xs i h = at_drop_all (λ ys. bytes_of ys) xs i h
+both : (a b r : Bool) → (a && b) ≡ true → (a && (b && r)) ≡ r
+both a b r e = grind arith
 
-pub hex_more : (xs : List ℕ) (i : ℕ) → i + 1 < length xs → (is_hex (get_or xs i 0) && is_hex (get_or xs (i + 1) 0)) ≡ true → all_hex (drop i xs) ≡ all_hex (drop (i + 2) xs)
+either : (a b r : Bool) → (a && b) ≡ false → (a && (b && r)) ≡ false
+either a b r e = grind arith
+
+pub hex_more : (xs : List ℕ) → 2 ≤ length xs → (is_hex (get_or xs 0 0) && is_hex (get_or xs 1 0)) ≡ true → all_hex xs ≡ all_hex (behind_two xs)
 unfolding all_hex
-hex_more xs i h e = ap (λ ys. all_hex ys) (two_more xs i h) ∙ both (is_hex (get_or xs i 0)) (is_hex (get_or xs (i + 1) 0)) _ e
+hex_more xs h e = ap (λ ys. all_hex ys) (two_more xs h) ∙ both (is_hex (get_or xs 0 0)) (is_hex (get_or xs 1 0)) _ e
 
-pub hex_no : (xs : List ℕ) (i : ℕ) → i + 1 < length xs → (is_hex (get_or xs i 0) && is_hex (get_or xs (i + 1) 0)) ≡ false → all_hex (drop i xs) ≡ false
+pub hex_no : (xs : List ℕ) → 2 ≤ length xs → (is_hex (get_or xs 0 0) && is_hex (get_or xs 1 0)) ≡ false → all_hex xs ≡ false
 unfolding all_hex
-hex_no xs i h e = ap (λ ys. all_hex ys) (two_more xs i h) ∙ either (is_hex (get_or xs i 0)) (is_hex (get_or xs (i + 1) 0)) _ e
-
-pub hex_all : (xs : List ℕ) (i : ℕ) → length xs ≤ i → all_hex (drop i xs) ≡ true
-unfolding all_hex
-hex_all xs i h = at_drop_all (λ ys. all_hex ys) xs i h
+hex_no xs h e = ap (λ ys. all_hex ys) (two_more xs h) ∙ either (is_hex (get_or xs 0 0)) (is_hex (get_or xs 1 0)) _ e
 
 -- one byte more is read
-pub read_more : (text items more : List ℕ) (k byte : ℕ) → 2 * k + 1 < length text → more ≡ items ++ byte ∷ [] → byte ≡ byte_of (get_or text (2 * k) 0) (get_or text (2 * k + 1) 0) → items ++ bytes_of (drop (2 * k) text) ≡ bytes_of text → more ++ bytes_of (drop (2 * (k + 1)) text) ≡ bytes_of text
-read_more text items more k byte h p q r =
-    let two : 2 * (k + 1) ≡ 2 * k + 2 = omega arith in
-    let here : bytes_of (drop (2 * k) text) ≡ byte ∷ bytes_of (drop (2 * k + 2) text) = rw q (bytes_more text (2 * k) h) in
-    rw (p, two) (append_assoc items (byte ∷ []) (bytes_of (drop (2 * k + 2) text)) ∙ (ap (λ ys. items ++ ys) (sym here) ∙ r))
+pub read_more : (items more xs all : List ℕ) (byte : ℕ) → 2 ≤ length xs → more ≡ items ++ byte ∷ [] → byte ≡ byte_of (get_or xs 0 0) (get_or xs 1 0) → items ++ bytes_of xs ≡ all → more ++ bytes_of (behind_two xs) ≡ all
+read_more items more xs all byte h p q r =
+    let here : bytes_of xs ≡ byte ∷ bytes_of (behind_two xs) = rw q (bytes_more xs h) in
+    rw p (append_assoc items (byte ∷ []) (bytes_of (behind_two xs)) ∙ (ap (λ ys. items ++ ys) (sym here) ∙ r))
 
--- all is read
+pub even_more : (xs : List ℕ) → 2 ≤ length xs → length xs % 2 ≡ 0 → length (behind_two xs) % 2 ≡ 0
+even_more xs h e = let same : length (behind_two xs) ≡ length xs - 2 = simp (length-take, length-drop) (omega arith) in rw same (omega arith)
+
+-- nothing is left
+bytes_none : (xs : List ℕ) → length xs ≡ 0 → bytes_of xs ≡ []
+unfolding bytes_of
+bytes_none [] h = refl
+bytes_none (a ∷ rest) h = absurd (omega arith)
+
+hex_none : (xs : List ℕ) → length xs ≡ 0 → all_hex xs ≡ true
+unfolding all_hex
+hex_none [] h = refl
+hex_none (a ∷ rest) h = absurd (omega arith)
+
+pub read_all : (items xs all : List ℕ) → length xs < 2 → length xs % 2 ≡ 0 → items ++ bytes_of xs ≡ all → items ≡ all
+read_all items xs all h e r = let none : bytes_of xs ≡ [] = bytes_none xs (omega arith) in sym (append-nil items) ∙ (rw none at r)
+
+-- what is the hexadecimal of bytes, and what is not
 pub hex_yes : (text : List ℕ) → length text % 2 ≡ 0 → all_hex text ≡ true → is_hex_text text ≡ true
 unfolding is_hex_text
 hex_yes text p q = rw (p, q)
+
+pub hex_all : (text xs : List ℕ) → length text % 2 ≡ 0 → length xs < 2 → length xs % 2 ≡ 0 → all_hex xs ≡ all_hex text → is_hex_text text ≡ true
+hex_all text xs p h e same = hex_yes text p (sym same ∙ hex_none xs (omega arith))
+
+pub hex_odd : (text : List ℕ) → length text % 2 ≢ 0 → is_hex_text text ≡ false
+unfolding is_hex_text
+hex_odd text h = grind (arith, nat_tests)
 
 pub hex_not : (text : List ℕ) → all_hex text ≡ false → is_hex_text text ≡ false
 unfolding is_hex_text

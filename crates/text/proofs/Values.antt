@@ -45,3 +45,6 @@ too_big xs h = grind (arith, nat_tests)
 pub too_long : (xs : List ℕ) → (length xs ≡ 0) ⊎ (20 < length xs) → number_of xs ≡ None
 unfolding is_number
 too_long xs h = grind (arith, nat_tests)
+
+-- what reading a number takes
+pub ruleset number_steps = (value_more, value_all, value_ge, digits_more, digits_no, digits_all, number_is, no_digits, too_big, too_long)

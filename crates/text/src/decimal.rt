@@ -3,30 +3,27 @@ ghost use Rattle.std.specs.Prelude.{◌≡◌, ◌+◌, ◌-◌, ◌*◌, ◌^�
 ghost use Rattle.text.specs.Growth.{Added};
 ghost use Rattle.text.specs.Decimal.{is_digit, number_of};
 
-use crate::plain::push_spaces;
 use std::alloc::AllocError;
 
 // A number has at most so many digits.
 const LONGEST: usize = 20;
 
 // What a digit stands for, 0 to 9.
-fn digit(byte: u8) -> Option<u8>
+fn digit(byte: u8) -> Option<u32>
     ensures { MatchOption result (is_digit byte ≡ false) (λ d. (is_digit byte ≡ true) × (d ≡ byte - 48) × (d < 10)) }
 {
-    match byte {
-        b'0'..=b'9' => Some(byte - b'0'),
-        _ => None,
-    }
+    char::from(byte).to_digit(10)
 }
 
 // A number with one more digit behind it, if that is below 2^64.
-fn append(number: u64, digit: u8) -> Option<u64>
+fn append(number: u64, digit: u32) -> Option<u64>
     ensures { MatchOption result (2 ^ 64 ≤ number * 10 + digit) (λ n. (n ≡ number * 10 + digit) × (n < 2 ^ 64)) }
 {
     number.checked_mul(10)?.checked_add(digit as u64)
 }
 
 // The number that a text of 1 to 20 digits writes, if it is below 2^64. Zeros may lead.
+#[tactic(auto, using(crate::proofs::Values::number_steps))]
 pub fn number(text: &[u8]) -> Option<u64>
     ensures { result ≡ number_of text.now }
 {
@@ -40,33 +37,21 @@ pub fn number(text: &[u8]) -> Option<u64>
     Some(number)
 }
 
-// How many digits a number has.
-pub(crate) fn digits(number: u64) -> usize
-    ensures { result ≡ length (decimal number) }
-{
-    if number < 10 {
-        1
-    } else {
-        digits(number / 10) + 1
-    }
-}
-
 // Puts a number's digits behind what is there.
 pub fn push_number(out: &mut Vec<u8>, number: u64) -> Result<(), AllocError>
     ensures { OnOk result (Added out.old.items out.new.items (decimal number)) }
 {
-    if number >= 10 {
-        push_number(out, number / 10)?;
-    }
-    out.push(b'0' + (number % 10) as u8)?;
+    let digits = number.to_string(*out.allocator())?;
+    out.extend_from_slice(digits.as_bytes())?;
     Ok(())
 }
 
 // Puts a number behind what is there, on the right of so many columns; a longer one takes what it needs.
+#[tactic(auto, using(crate::proofs::Written::right_aligned))]
 pub fn push_aligned(out: &mut Vec<u8>, number: u64, width: usize) -> Result<(), AllocError>
     ensures { OnOk result (Added out.old.items out.new.items (replicate (width - length (decimal number)) 32 ++ decimal number)) }
 {
-    push_spaces(out, width.saturating_sub(digits(number)))?;
-    push_number(out, number)?;
+    let column = format!(in *out.allocator(); "{number:>width$}")?;
+    out.extend_from_slice(column.as_bytes())?;
     Ok(())
 }

@@ -5,12 +5,16 @@ ghost use Rattle.text.specs.declared.hex.HexFault.TheVariants.{NoMemory};
 ghost use Rattle.text.specs.Hex.{hex_value, hex_digit, pair_of, bytes_of, is_hex_text, hex_of, Fails};
 
 use std::alloc::{AllocError, AllocFailed, Global};
+use std::fmt;
+use thiserror::Error;
 
 // Why a text gives no bytes.
-#[derive(Clone, Copy)]
+#[derive(Clone, Copy, Debug, PartialEq, Eq, Error)]
 pub enum HexFault {
     // an odd number of digits, or what is no digit
+    #[error("not hexadecimal")]
     NotHex,
+    #[error("out of memory")]
     NoMemory,
 }
 
@@ -30,7 +34,7 @@ impl<T: Drop> From<AllocFailed<T>> for HexFault {
     }
 }
 
-// What a digit stands for, 0 to 15.
+// What a digit stands for, 0 to 15; `to_digit` would read capitals too.
 pub fn nibble(digit: u8) -> Option<u8>
     ensures { result ≡ hex_value digit }
 {
@@ -41,52 +45,52 @@ pub fn nibble(digit: u8) -> Option<u8>
     }
 }
 
-// The digit that stands for a number below 16.
-fn digit_of(nibble: u8) -> u8
-    requires { nibble < 16 }
-    ensures { result ≡ hex_digit nibble }
+// The byte that a pair of digits stands for.
+fn pair(high: u8, low: u8) -> Option<u8>
+    ensures { result ≡ pair_of high low }
 {
-    if nibble < 10 {
-        b'0' + nibble
-    } else {
-        b'a' + (nibble - 10)
-    }
-}
-
-// The byte that the k-th pair of digits stands for.
-fn pair(text: &[u8], k: usize) -> Option<u8>
-    requires { 2 * k + 1 < length text.now }
-    ensures { result ≡ pair_of (slice_index text.now (2 * k)) (slice_index text.now (2 * k + 1)) }
-{
-    let high = nibble(text[2 * k])?;
-    let low = nibble(text[2 * k + 1])?;
-    Some(16 * high + low)
+    Some(16 * nibble(high)? + nibble(low)?)
 }
 
 // The bytes whose hexadecimal the text is.
+#[tactic(auto, using(crate::proofs::Pairs::none_cond, crate::proofs::Pairs::hex_no, crate::proofs::Pairs::hex_odd, crate::proofs::Pairs::hex_not))]
 pub fn unhex(heap: Global, text: &[u8]) -> Result<Vec<u8>, HexFault>
     ensures { MatchResult result (λ v. (is_hex_text text.now ≡ true) × (v.items ≡ bytes_of text.now)) (λ e. Fails text.now e) }
 {
     if text.len() % 2 != 0 {
         return Err(HexFault::NotHex);
     }
-    let half = text.len() / 2;
-    let mut bytes = Vec::with_capacity(heap, half)?;
-    for k in 0..half {
-        let Some(byte) = pair(text, k) else {
-            return Err(HexFault::NotHex);
-        };
-        bytes.push(byte)?;
+    let mut bytes = Vec::with_capacity(heap, text.len() / 2)?;
+    let mut rest = text;
+    while let [high, low, tail @ ..] = rest {
+        bytes.push(pair(*high, *low).ok_or(HexFault::NotHex)?)?;
+        rest = tail;
     }
     Ok(bytes)
+}
+
+// Bytes that are shown in hexadecimal.
+#[derive(Clone, Copy)]
+pub struct Hex<'a>(pub &'a [u8]);
+
+impl fmt::Display for Hex<'_> {
+    ghost use Rattle.std.specs.Prelude.{Some};
+
+    ghost output = { λ h. Some (hex_of h.0.now) };
+
+    fn fmt<W: fmt::Write>(&self, f: &mut fmt::Formatter<W>) -> fmt::Result {
+        for &byte in self.0 {
+            write!(f, "{byte:02x}")?;
+        }
+        Ok(())
+    }
 }
 
 // Puts the hexadecimal of the bytes behind what is there.
 pub fn push_hex(out: &mut Vec<u8>, bytes: &[u8]) -> Result<(), AllocError>
     ensures { OnOk result (Added out.old.items out.new.items (hex_of bytes.now)) }
 {
-    for byte in bytes {
-        out.extend_from_slice(&[digit_of(*byte / 16), digit_of(*byte % 16)])?;
-    }
+    let digits = Hex(bytes).to_string(*out.allocator())?;
+    out.extend_from_slice(digits.as_bytes())?;
     Ok(())
 }

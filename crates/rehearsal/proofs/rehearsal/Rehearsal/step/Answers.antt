@@ -1,0 +1,13 @@
+use Rattle.std.proofs.Common.{◌≡◌, [], ◌++◌, string_bytes, vec_items, subst, rules}
+use Rattle.script.specs.Lines.{is_line, line_in}
+use Rattle.rehearsal.specs.Steps.{Does}
+use Rattle.rehearsal.proofs.Behind.{does_behind}
+use Rattle.rehearsal.proofs.rehearsal.Rehearsal.step.Goals as goal
+
+pub returns-clause-does : goal.returns-clause-does
+returns-clause-does c =
+    let line = c.args.line.now in
+    let said = string_bytes c.say.new.out in
+    let none : string_bytes c.new-said.result ≡ [] = search rules in
+    let all : vec_items c.extend_from_slice.new.self ≡ vec_items c.args.out.now ++ said = search rules in
+    rw all (does_behind (is_line line) (line_in line) c.args.self.now c.say.new.self (vec_items c.args.out.now) said (subst (λ was. Does (is_line line) (line_in line) c.args.self.now c.say.new.self was said) none c.in_ok-say.ensures.does))
