@@ -1,6 +1,6 @@
-use Rattle.std.proofs.Common.{◌≡◌, ◌+◌, ◌++◌, get_or, take, vec_items, arith, rules}
-use Rattle.std.proofs.lemmas.List.{take_more, take_all, flat_map_more}
-use Rattle.rehearsal.specs.Tables.{row_of, parcel_rows}
+use Rattle.std.proofs.Common.{arith, rules}
+use Rattle.std.proofs.lemmas.List.{take_all}
+use Rattle.rehearsal.specs.Tables.{parcel_rows}
 use Rattle.rehearsal.proofs.Rows.{rows_more}
 use Rattle.rehearsal.proofs.show.push_rows.Goals as goal
 
