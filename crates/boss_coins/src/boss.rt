@@ -78,7 +78,7 @@ impl Boss {
     pub fn give(&mut self, letter: LetterId, to: NodeId, room: usize) -> Outcome
         ensures { give_step self.old letter to room ≡ record { boss = self.new; outcome = result } }
     {
-        if to.number > 255 {
+        if !to.is_helper() {
             return Outcome::refused(Refusal::Malformed);
         }
         match find(&self.letters, letter) {

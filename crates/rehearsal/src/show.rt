@@ -4,7 +4,7 @@ ghost use Rattle.text.specs.Growth.{Prints};
 ghost use Rattle.rehearsal.specs.Tables.{yes_or_no, helper_row, node_column, kind_column, bytes_column, mail_row, helper_rows, row_of, parcel_rows, headed, letter_table, table_of, tables, or_none, Sorted, Shown};
 
 use boss_coins::boss::Boss;
-use coins::ids::{BOSS, LetterId, NodeId};
+use coins::ids::{LetterId, NodeId};
 use coins::mail::{Kind, Mail};
 use coins::parcel::Parcel;
 use helper_coins::holding::Holding;
@@ -157,8 +157,9 @@ impl fmt::Display for Column {
 
     #[tactic(auto, using(text::proofs::Written::right_aligned), unfolding(crate::specs::Tables::node_column))]
     fn fmt<W: fmt::Write>(&self, f: &mut fmt::Formatter<W>) -> fmt::Result {
-        let number = self.0.number;
-        if number == BOSS {
+        let Column(node) = *self;
+        let number = node.number;
+        if node.is_boss() {
             write!(f, "  boss")
         } else {
             write!(f, "{number:>6}")

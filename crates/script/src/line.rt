@@ -4,7 +4,7 @@ use stage::command::Command;
 // The most helpers that a script may ask for, and those that there are before it asks.
 pub const HELPERS: u16 = 8;
 
-#[derive(Clone, Copy)]
+#[derive(Clone, Copy, Debug, PartialEq, Eq)]
 pub enum Line<'a> {
     // a blank line, or a comment alone
     Empty,
