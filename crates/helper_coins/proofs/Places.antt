@@ -1,15 +1,16 @@
 -- The places of letters, among slots and among the numbers and holdings that are seen of them.
-use Rattle.std.proofs.Common.{◌≡◌, ℕ, zero, suc, ◌+◌, ◌<◌, Bool, true, false, not, cond, List, [], ◌∷◌, map, length, refl, ap, ◌==◌, Option, Some, None, arith, set, sym, get_or, slice_index}
+use Rattle.std.proofs.Common.{◌≡◌, ℕ, zero, suc, ◌<◌, Bool, true, false, List, [], ◌∷◌, map, length, refl, ◌==◌, Option, Some, None, arith, set, get_or, slice_index}
 use Rattle.std.specs.List.{position, position_or_len, All}
 use Rattle.std.proofs.lemmas.List.{length-map, map-set, get_or-map, set-get_or}
 use Rattle.std.proofs.lemmas.List.Quantifiers.{position-Some}
 use Rattle.std.proofs.lemmas.List.Elements.{All-head, All-tail, All-weaker}
-use Rattle.coins.specs.Letters.{seek, place, found}
+use Rattle.coins.specs.Letters.{found}
 use Rattle.helper_coins.specs.declared.slot.Slot.{Slot}
 use Rattle.coins.specs.declared.ids.NodeId.{NodeId}
 use Rattle.helper_coins.specs.Shown.{Shown}
 use Rattle.helper_coins.specs.Slots.{number_in, holding_in, Numbered, numbers, holdings}
-use Rattle.helper_coins.specs.Helpers.{write, store}
+use Rattle.helper_coins.specs.Helpers.{at, write, store}
+use Rattle.helper_coins.specs.Holdings.{idle, waits}
 use Rattle.helper_coins.specs.declared.holding.Holding.{Holding}
 
 -- what agrees at each item finds the same place
@@ -79,6 +80,10 @@ found_taken ns (suc n) i e =
     let some : (suc n == 0) ≡ false = grind arith in
     let there : (slice_index ns i == suc n) ≡ true = (position-Some (λ x. x == suc n) ns i 0 (rw some at e)).1 in
     grind arith
+
+-- at the first place of coins that wait there are some
+pub found_waits : (hs : List Holding) (i : ℕ) → position waits hs ≡ Some i → waits (at hs i) ≡ true
+found_waits hs i e = (position-Some waits hs i idle e).1
 
 -- a slot whose letter has another holding
 abbrev pub with_holding : Holding → Option Slot → Option Slot

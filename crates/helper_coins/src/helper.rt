@@ -12,7 +12,8 @@ use coins::limits::fits;
 use coins::mail::{Kind, Mail, Outcome, Taking, Untaken};
 use std::marker::Model;
 
-// A helper's state of up to 64 letters.
+// A helper's state of up to 64 letters. Seen as a list of their numbers, 0 where a place is free, and a list of
+// what it has of each.
 #[derive(Drop)]
 pub struct Helper {
     me: NodeId,
@@ -78,6 +79,7 @@ impl Helper {
         find(&self.slots, letter).or_else(|| first_free(&self.slots))
     }
 
+    // Gives a place to a letter, with what it has of it.
     fn write(&mut self, i: usize, letter: LetterId, holding: Holding)
         requires place { i < 64 }
         requires numbered { 0 < letter.number }
@@ -95,6 +97,7 @@ impl Helper {
         self.slots[i] = self.slots[i].map(|slot| Slot { holding, ..slot });
     }
 
+    // Takes a place from its letter.
     fn free(&mut self, i: usize)
         requires { i < 64 }
         ensures { self.new ≡ write self.old i 0 idle }
@@ -193,6 +196,7 @@ impl Helper {
     }
 
     // Sends coins back that waited for a place: of the first such letter, if there is a place now.
+    #[tactic(auto, using(crate::proofs::Places::found_waits))]
     pub fn flush(&mut self, boss: usize) -> Option<Mail>
         ensures { flush_step self.old boss ≡ record { helper = self.new; post = result } }
     {

@@ -15,12 +15,14 @@ pub(crate) struct Slot {
     pub(crate) holding: Holding,
 }
 
-// The place that a letter has.
+// The place of a letter among those that have one. The number 0 is no letter, and has none.
 pub(crate) fn find(slots: &[Option<Slot>], letter: LetterId) -> Option<usize>
     requires { All Numbered slots.now }
     ensures { result ≡ found (numbers slots.now) letter.number }
 {
-    slots.iter().position(|slot| slot.is_some_and(|slot| slot.letter.number == letter.number))
+    slots
+        .iter()
+        .position(|slot| slot.is_some_and(|slot| slot.letter == letter))
 }
 
 // The first place that is free.

@@ -1,4 +1,4 @@
-use Rattle.std.proofs.Common.{rules, ◌≡◌, ◌<◌, ◌∙◌, ap, None, get_or, length, arith, slice_index}
+use Rattle.std.proofs.Common.{rules, ◌≡◌, ◌<◌, ◌∙◌, ap, None, get_or, length, slice_index}
 use Rattle.helper_coins.specs.Slots.{numbers}
 use Rattle.helper_coins.specs.Shown.{Shown}
 use Rattle.helper_coins.specs.Helpers.{store}
