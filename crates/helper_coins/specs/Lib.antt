@@ -1,2 +1,4 @@
 pub mod Holdings
+pub mod Shown
+pub mod Slots
 pub mod Helpers

@@ -1,23 +1,36 @@
 // A helper: what it does with work and coins of all its letters.
-ghost use Rattle.std.specs.Prelude.{◌≡◌, ◌<◌, ◌≤◌, Some, MatchOption, nat_lt};
-ghost use Rattle.std.specs.List.{position};
-ghost use Rattle.helper_coins.specs.Holdings.{waits};
+ghost use Rattle.std.specs.Prelude.{◌≡◌, ◌<◌, ◌≤◌, true, MatchOption, nat_lt, slice_index};
+ghost use Rattle.helper_coins.specs.Holdings.{idle, waits};
 ghost use Rattle.coins.specs.Letters.{place};
-ghost use Rattle.helper_coins.specs.Helpers.{new_helper, holding_of, slot_for, write, clear, to_boss, counted, seek_waiting, share_step, ask_at, rest_step, vacated, flush_step, work_step, more_step, no_more_step, arrive_step};
+ghost use Rattle.helper_coins.specs.Helpers.{new_helper, at, holding_of, slot_for, write, store, clear, to_boss, counted, seek_waiting, share_step, ask_at, rest_step, vacated, flush_step, work_step, more_step, no_more_step, arrive_step};
 
 use crate::holding::Holding;
+use crate::slot::{Slot, find, first_free, first_waiting};
 use coins::answer::{Answer, Refusal};
 use coins::ids::{LetterId, NodeId};
-use coins::letters::{find, first};
 use coins::limits::fits;
 use coins::mail::{Kind, Mail, Outcome, Taking, Untaken};
+use std::marker::Model;
 
-// A helper's state: for each of up to 64 letters its number, 0 where the place is free, and its holding.
+// A helper's state of up to 64 letters. Seen as a list of their numbers, 0 where a place is free, and a list of
+// what it has of each.
 #[derive(Drop)]
 pub struct Helper {
     me: NodeId,
-    letters: [u32; 64],
-    holdings: [Holding; 64],
+    slots: [Option<Slot>; 64],
+}
+
+impl Model for Helper {
+    ghost use Rattle.helper_coins.specs.Shown.{Shown};
+
+    ghost Value = { Shown };
+
+    ghost use Rattle.std.specs.List.{All};
+    ghost use Rattle.helper_coins.specs.Slots.{numbers, holdings, Numbered};
+
+    ghost view = { λ h. record { me = h.me; letters = numbers h.slots; holdings = holdings h.slots } };
+
+    ghost invariant = { λ h. All Numbered h.slots };
 }
 
 impl Helper {
@@ -26,8 +39,7 @@ impl Helper {
     {
         Helper {
             me,
-            letters: [0; 64],
-            holdings: [Holding::idle(); 64],
+            slots: [None; 64],
         }
     }
 
@@ -42,47 +54,63 @@ impl Helper {
     pub fn holding(&self, letter: LetterId) -> Holding
         ensures { result ≡ holding_of self.now letter.number }
     {
-        find(&self.letters, letter).map_or(Holding::idle(), |i| self.holdings[i])
+        find(&self.slots, letter).map_or(Holding::idle(), |i| self.held(i))
+    }
+
+    // What it has of the letter at a place.
+    fn held(&self, i: usize) -> Holding
+        requires { i < 64 }
+        ensures { result ≡ at self.now.holdings i }
+    {
+        self.slots[i].map_or(Holding::idle(), |slot| slot.holding)
     }
 
     // Whether coins of some letter wait for a place.
     pub fn is_waiting(&self) -> bool
         ensures { result ≡ nat_lt (seek_waiting self.now.holdings) 64 }
     {
-        self.first_waiting().is_some()
-    }
-
-    // The first letter that it is not at work on and has coins of.
-    fn first_waiting(&self) -> Option<usize>
-        ensures { result ≡ position waits self.now.holdings }
-    {
-        self.holdings
-            .iter()
-            .position(|holding| holding.is_waiting())
+        first_waiting(&self.slots).is_some()
     }
 
     // The place that the letter has, or else a free one.
     fn slot_for(&self, letter: LetterId) -> Option<usize>
         ensures { MatchOption result (64 ≤ slot_for self.now letter.number) (λ i. (i ≡ slot_for self.now letter.number) × (i < 64)) }
     {
-        find(&self.letters, letter).or_else(|| first(&self.letters, 0))
+        find(&self.slots, letter).or_else(|| first_free(&self.slots))
     }
 
+    // Gives a place to a letter, with what it has of it.
     fn write(&mut self, i: usize, letter: LetterId, holding: Holding)
-        requires { i < 64 }
+        requires place { i < 64 }
+        requires numbered { 0 < letter.number }
         ensures { self.new ≡ write self.old i letter.number holding }
     {
-        self.letters[i] = letter.number;
-        self.holdings[i] = holding;
+        self.slots[i] = Some(Slot { letter, holding });
+    }
+
+    // Changes what it has of the letter at a place.
+    fn store(&mut self, i: usize, holding: Holding)
+        requires place { i < 64 }
+        requires taken { 0 < slice_index self.old.letters i }
+        ensures { self.new ≡ store self.old i holding }
+    {
+        self.slots[i] = self.slots[i].map(|slot| Slot { holding, ..slot });
+    }
+
+    // Takes a place from its letter.
+    fn free(&mut self, i: usize)
+        requires { i < 64 }
+        ensures { self.new ≡ write self.old i 0 idle }
+    {
+        self.slots[i] = None;
     }
 
     // Frees the place of a letter, where it has one.
     fn clear(&mut self, letter: LetterId)
         ensures { self.new ≡ clear self.old (place self.old.letters letter.number) }
     {
-        if let Some(i) = find(&self.letters, letter) {
-            self.letters[i] = 0;
-            self.holdings[i] = Holding::idle();
+        if let Some(i) = find(&self.slots, letter) {
+            self.free(i);
         }
     }
 
@@ -100,16 +128,17 @@ impl Helper {
 
     // Gives work on to a helper, with the smaller half of the coins. `peer` and `boss` are the places that
     // there are towards that helper and towards the boss.
+    #[tactic(auto, using(crate::proofs::Places::found_taken))]
     pub fn share(&mut self, letter: LetterId, to: NodeId, peer: usize, boss: usize) -> Outcome
         ensures { share_step self.old letter to peer boss ≡ record { helper = self.new; outcome = result } }
     {
         if to.number > 255 {
             return Outcome::refused(Refusal::Malformed);
         }
-        let Some(i) = find(&self.letters, letter) else {
+        let Some(i) = find(&self.slots, letter) else {
             return Outcome::refused(Refusal::NoLetter);
         };
-        let holding = self.holdings[i];
+        let holding = self.held(i);
         if !holding.working {
             return Outcome::refused(Refusal::NotWorking);
         }
@@ -123,7 +152,7 @@ impl Helper {
             return Outcome::refused(Refusal::NoPlace);
         }
         let (rest, half) = holding.split();
-        self.holdings[i] = rest;
+        self.store(i, rest);
         Outcome::fine(Some(Mail {
             sender: self.me,
             receiver: to,
@@ -134,13 +163,14 @@ impl Helper {
 
     // One coin can't be shared: asks for more, if it hasn't and there is a place.
     fn ask(&mut self, letter: LetterId, i: usize, holding: Holding, boss: usize) -> Outcome
-        requires { i < 64 }
+        requires place { i < 64 }
+        requires taken { 0 < slice_index self.old.letters i }
         ensures { ask_at self.old letter i holding boss ≡ record { helper = self.new; outcome = result } }
     {
         if holding.asked || boss == 0 {
             return Outcome::refused(Refusal::OneCoin);
         }
-        self.holdings[i] = holding.ask();
+        self.store(i, holding.ask());
         Outcome {
             answer: Answer::Refused(Refusal::OneCoin),
             post: Some(self.to_boss(letter, Kind::Ask)),
@@ -151,10 +181,10 @@ impl Helper {
     pub fn rest(&mut self, letter: LetterId, boss: usize) -> Outcome
         ensures { rest_step self.old letter boss ≡ record { helper = self.new; outcome = result } }
     {
-        let Some(i) = find(&self.letters, letter) else {
+        let Some(i) = find(&self.slots, letter) else {
             return Outcome::refused(Refusal::NoLetter);
         };
-        let holding = self.holdings[i];
+        let holding = self.held(i);
         if !holding.working {
             return Outcome::refused(Refusal::NotWorking);
         }
@@ -166,27 +196,25 @@ impl Helper {
     }
 
     // Sends coins back that waited for a place: of the first such letter, if there is a place now.
+    #[tactic(auto, using(crate::proofs::Places::found_waits))]
     pub fn flush(&mut self, boss: usize) -> Option<Mail>
         ensures { flush_step self.old boss ≡ record { helper = self.new; post = result } }
     {
-        match self.first_waiting() {
-            Some(i) if boss > 0 => Some(self.vacate(i)),
+        match first_waiting(&self.slots) {
+            Some(i) if boss > 0 => self.vacate(i),
             _ => None,
         }
     }
 
     // The coins of a place go back, and it is free.
-    fn vacate(&mut self, i: usize) -> Mail
-        requires { i < 64 }
-        ensures { vacated self.old i ≡ record { helper = self.new; post = Some result } }
+    fn vacate(&mut self, i: usize) -> Option<Mail>
+        requires place { i < 64 }
+        requires waits { waits (at self.old.holdings i) ≡ true }
+        ensures { vacated self.old i ≡ record { helper = self.new; post = result } }
     {
-        let letter = LetterId {
-            number: self.letters[i],
-        };
-        let coins = self.holdings[i].coins;
-        self.letters[i] = 0;
-        self.holdings[i] = Holding::idle();
-        self.to_boss(letter, Kind::Back(coins))
+        let slot = self.slots[i]?;
+        self.free(i);
+        Some(self.to_boss(slot.letter, Kind::Back(slot.holding.coins)))
     }
 
     // What it has of a letter that coins have come of, if they can be: some, and few enough, of a letter.
@@ -228,11 +256,19 @@ impl Helper {
     }
 
     // The boss has no coins to give.
+    #[tactic(auto, using(crate::proofs::Places::found_taken))]
     fn no_more(&mut self, letter: LetterId) -> Taking
         ensures { no_more_step self.old letter ≡ record { helper = self.new; taking = result } }
     {
-        if let Some(i) = find(&self.letters, letter) {
-            self.holdings[i].asked = false;
+        if let Some(i) = find(&self.slots, letter) {
+            let holding = self.held(i);
+            self.store(
+                i,
+                Holding {
+                    asked: false,
+                    ..holding
+                },
+            );
         }
         Ok(None)
     }

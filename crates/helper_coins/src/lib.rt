@@ -4,5 +4,6 @@
 pub mod helper;
 pub mod holding;
 mod purse;
+mod slot;
 #[cfg(test)]
 mod tests;
