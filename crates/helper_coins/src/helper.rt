@@ -132,7 +132,7 @@ impl Helper {
     pub fn share(&mut self, letter: LetterId, to: NodeId, peer: usize, boss: usize) -> Outcome
         ensures { share_step self.old letter to peer boss ≡ record { helper = self.new; outcome = result } }
     {
-        if to.number > 255 {
+        if !to.is_helper() {
             return Outcome::refused(Refusal::Malformed);
         }
         let Some(i) = find(&self.slots, letter) else {
