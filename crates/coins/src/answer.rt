@@ -28,7 +28,7 @@ pub enum Refusal {
 }
 
 impl Refusal {
-    // The number by which a refusal is told.
+    // The number by which a refusal is told. Some share one, so it is no conversion.
     pub fn number(self) -> u8
         ensures { result ≡ refusal_number self }
     {
@@ -47,7 +47,7 @@ impl Refusal {
     }
 }
 
-// What a call answers.
+// What a call answers. It is no Result: the project asks for the enum of a refusal inside that of an answer.
 #[derive(Clone, Copy, Debug, PartialEq, Eq)]
 pub enum Answer {
     Fine,

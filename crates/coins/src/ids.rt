@@ -9,7 +9,8 @@ pub struct LetterId {
     pub number: u32,
 }
 
-// Who sends and receives: a helper, 0 to 255, or the boss, 65,535.
+// Who sends and receives: a helper, 0 to 255, or the boss, 65,535. Any other number may come over a line and is
+// refused, so this is no enum of the two: that would ask more of callers.
 #[derive(Clone, Copy, Debug, PartialEq, Eq)]
 pub struct NodeId {
     pub number: u16,

@@ -22,7 +22,7 @@ pub enum Kind {
 }
 
 impl Kind {
-    // The number that stands for the kind in a message.
+    // The number that stands for the kind in a message. Two share one, so it is no conversion.
     pub fn number(self) -> u8
         ensures { result ≡ kind_number self }
     {
