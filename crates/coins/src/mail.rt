@@ -59,7 +59,7 @@ pub struct Mail {
 }
 
 // What a call answers and sends: at most one message.
-#[derive(Clone, Copy)]
+#[derive(Clone, Copy, Debug, PartialEq, Eq)]
 pub struct Outcome {
     pub answer: Answer,
     pub post: Option<Mail>,

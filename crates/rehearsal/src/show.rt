@@ -75,6 +75,7 @@ fn push_letter(out: &mut String, stage: &Stage, letter: LetterId) -> Result<(), 
     push_parcels(out, stage.parcels(), letter)
 }
 
+// By their numbers, which are their places; what each has is asked for by its number.
 #[tactic(auto, unfolding(crate::specs::Tables::helper_rows))]
 fn push_helpers(out: &mut String, stage: &Stage, letter: LetterId) -> Result<(), AllocError>
     ensures { Prints result out.old out.new (helper_rows stage.now.helpers letter (min (length stage.now.helpers) 256)) }

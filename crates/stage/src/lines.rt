@@ -13,7 +13,7 @@ use helper_coins::helper::Helper;
 // As many messages of a sender to a receiver may be under way.
 pub const WINDOW: usize = 1024;
 
-// Whether a message goes from one to another.
+// Whether a message goes from one to another. The two are no struct: each call would make one anew of what it has.
 fn on_line(mail: Mail, sender: NodeId, receiver: NodeId) -> bool
     ensures { result ≡ on_line sender receiver mail }
 {
