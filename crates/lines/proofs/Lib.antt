@@ -5,6 +5,5 @@ pub mod Promise
 pub mod Through
 pub mod Cuts
 pub mod Slots
-pub mod Hears
 pub mod Fitting
 pub mod Resends

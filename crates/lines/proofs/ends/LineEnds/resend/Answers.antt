@@ -1,4 +1,4 @@
-use Rattle.std.proofs.Common.{◌≡◌, ℕ, ◌<◌, length, vec_items, sym, refl, append-nil, arith}
+use Rattle.std.proofs.Common.{◌<◌, length, vec_items, sym, append-nil}
 use Rattle.std.proofs.lemmas.List.{take_all}
 use Rattle.lines.specs.Packets.{resent_all}
 use Rattle.lines.specs.Viewed.{ends_in}
@@ -14,13 +14,13 @@ loop-i-preserved c =
     let v = c.deref-end-items.ensures.value in
     let x = c.end-item.result in
     let l : c.loop-i.i < length (vec_items c.args.self.now.ends) = rw v at c.loop-i-test.true in
-    ends_more _ _ _ _ _ (vec_items c.args.self.now.ends) c.loop-i.i x c.loop-i.invariant l (rw v at c.end-item.is) c.peer_at.ensures (c.if-not-resend.ensures.all refl)
+    ends_more _ _ _ _ _ (vec_items c.args.self.now.ends) c.loop-i.i x c.loop-i.invariant l (rw v at c.end-item.is) c.peer_at.ensures c.in_ok-resend.ensures.all
 
-pub returns-then-not-resend : goal.returns-then-not-resend
-returns-then-not-resend c = record { all = λ e. let z : ◌≡◌ {A = ℕ} 0 1 = cc in absurd (omega arith); some = grew_twice _ _ _ _ c.loop-i.invariant c.if-not-resend.ensures.some }
+pub returns-in_err-resend-clause-some : goal.returns-in_err-resend-clause-some
+returns-in_err-resend-clause-some c = grew_twice _ _ _ _ c.loop-i.invariant c.in_err-resend.ensures.some
 
 pub returns : goal.returns
 returns c =
     let v = c.deref-end-items.ensures.value in
     let l = rw v at c.loop-i-test.false in
-    record { all = λ _. rw (take_all c.loop-i.i (vec_items c.args.self.now.ends) l) at c.loop-i.invariant; some = record { more = _; behind = c.loop-i.invariant } }
+    record { all = rw (take_all c.loop-i.i (vec_items c.args.self.now.ends) l) at c.loop-i.invariant; some = record { more = _; behind = c.loop-i.invariant } }

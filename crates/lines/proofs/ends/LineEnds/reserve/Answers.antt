@@ -1,4 +1,5 @@
-use Rattle.std.proofs.Common.{◌∙◌}
+use Rattle.std.proofs.Common.{◌≡◌, Bool, true, sym, subst}
+use Rattle.std.specs.Result.{OnOk}
 use Rattle.lines.proofs.Slots.{stays_there, spare_put, ready_still}
 use Rattle.lines.proofs.ends.LineEnds.reserve.Goals as goal
 
@@ -8,6 +9,6 @@ returns c =
     let i = c.index_mut.ensures.value in
     record {
       same = stays_there c.args.self.now c.args.peer.number c.slot.result c.index_mut.result.now s i c.reserve.new.self c.reserve.ensures.same;
-      ready = λ e. spare_put c.args.self.now c.args.peer.number c.slot.result c.index_mut.result.now s i c.reserve.new.self ∙ c.reserve.ensures.ready e;
+      ready = subst (λ (b : Bool). OnOk c.reserve.result (b ≡ true)) (sym (spare_put c.args.self.now c.args.peer.number c.slot.result c.index_mut.result.now s i c.reserve.new.self)) c.reserve.ensures.ready;
       memory = ready_still c.args.self.now c.args.peer.number c.slot.result c.index_mut.result.now s i c.reserve.new.self c.reserve.ensures.memory;
     }

@@ -10,5 +10,5 @@ returns c =
     record {
       memory = spares_stay c.args.self.now c.args.peer.number c.slot.result c.index_mut.result.now s i c.take.new.self c.take.ensures.memory;
       after = put_there c.args.self.now c.args.peer.number c.slot.result c.index_mut.result.now s i c.take.new.self _
-          (c.take.ensures.after ∙ sym (ap (λ (x : End). taking x c.args.number) (end_there c.args.self.now c.args.peer.number c.slot.result c.index_mut.result.now s i)));
+          (c.take.ensures.after ∙ sym (ap (λ (x : End). taking x c.args.number.number) (end_there c.args.self.now c.args.peer.number c.slot.result c.index_mut.result.now s i)));
     }
