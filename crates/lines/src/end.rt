@@ -20,6 +20,7 @@ pub enum Standing {
 pub struct Full;
 
 // At most 1,024 messages wait, and sequence numbers stay far below the end of their type.
+// Clauses see an end by `end_of` and `spare`. The value of a Model would hold both of them, and be no plainer.
 #[derive(Drop)]
 pub struct LineEnd {
     // the number up to which the peer has answered

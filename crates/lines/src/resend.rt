@@ -51,12 +51,7 @@ fn peer_at(i: usize) -> NodeId
 
 impl LineEnd {
     // Sends again all that waits for the peer's answer, or as much as there is memory for.
-    pub fn resend(
-        &self,
-        me: NodeId,
-        peer: NodeId,
-        out: &mut Vec<Packet>,
-    ) -> Result<(), AllocError>
+    pub fn resend(&self, me: NodeId, peer: NodeId, out: &mut Vec<Packet>) -> Result<(), AllocError>
         ensures all { OnOk result (out.new.items ≡ out.old.items ++ resent me peer (end_of self.now).answered (end_of self.now).waiting) }
         ensures some { Grew out.old.items out.new.items }
     {
