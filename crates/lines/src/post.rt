@@ -4,7 +4,7 @@ ghost use Rattle.lines.specs.Ends.{slot, end_at, standing};
 ghost use Rattle.lines.specs.Packets.{answer_of, kept_for, out_for};
 ghost use Rattle.wire.specs.Bytes.{decode};
 ghost use Rattle.wire.specs.Messages.{view};
-ghost use Rattle.lines.specs.Hearing.{own_message, hears, by_body, by_standing, by_answer, mail_of};
+ghost use Rattle.lines.specs.Hearing.{own_message, hears, by_standing, mail_of};
 ghost use Rattle.lines.specs.Viewed.{ends_of, can_send};
 
 use crate::end::{Full, Standing};
@@ -97,14 +97,6 @@ impl LineEnds {
         }
     }
 
-    // A peer's answer has come.
-    fn hear_answer(&mut self, peer: NodeId, number: SequenceNumber) -> Result<Heard, Refusal>
-        ensures { by_answer (ends_of self.old) (slot peer.number) number.number ≡ record { ends = ends_of self.new; heard = result } }
-    {
-        self.release(peer, number)?;
-        Ok(Heard::Released)
-    }
-
     // A peer's message with a number has come.
     fn hear_numbered(&self, me: NodeId, peer: NodeId, message: Message<'_>, kind: Kind) -> Heard
         ensures { result ≡ by_standing (mail_of me peer (view message.entry) kind) message.entry.number.number (standing (end_at (ends_of self.now) (slot peer.number)) message.entry.number.number) }
@@ -124,26 +116,17 @@ impl LineEnds {
         }
     }
 
-    // A message has come from a peer.
-    fn hear_body(
-        &mut self,
-        me: NodeId,
-        peer: NodeId,
-        message: Message<'_>,
-    ) -> Result<Heard, Refusal>
-        ensures { by_body me peer (ends_of self.old) (view message.entry) message.entry.body ≡ record { ends = ends_of self.new; heard = result } }
-    {
-        match message.body {
-            Body::Numbered(kind) => Ok(self.hear_numbered(me, peer, message, kind)),
-            Body::Taken => self.hear_answer(peer, message.number),
-        }
-    }
-
     // Bytes have come from a peer, whatever they are.
     pub fn hear(&mut self, me: NodeId, peer: NodeId, bytes: &[u8]) -> Result<Heard, Refusal>
         ensures { hears me peer (ends_of self.old) bytes.now ≡ record { ends = ends_of self.new; heard = result } }
     {
         let message = own_message(me, peer, bytes)?;
-        self.hear_body(me, peer, message)
+        match message.body {
+            Body::Numbered(kind) => Ok(self.hear_numbered(me, peer, message, kind)),
+            Body::Taken => {
+                self.release(peer, message.number)?;
+                Ok(Heard::Released)
+            }
+        }
     }
 }
