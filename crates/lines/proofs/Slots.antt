@@ -62,7 +62,5 @@ module _ (ends : LineEnds) (peer i : ℕ) (x : LineEnd) (s : i ≡ slot peer) (i
     | inr t ↦ ap (λ (bs : List Bool). get_or bs j false) (map-set spare (vec_items ends.ends) i y) ∙ get_or-set_other (spares_of ends) i j (spare y) false t.1 ∙ e
   ]
 
--- one more that is fresh
-pub fresh_more : (xs ys : List LineEnd) (y : LineEnd) (n : ℕ) → ys ≡ xs ++ y ∷ [] → end_of y ≡ fresh_end → ends_in xs ≡ replicate n fresh_end → ends_in ys ≡ replicate (n + 1) fresh_end
-unfolding ends_in
-fresh_more xs ys y n e f h = rw e (map_push end_of xs y ∙ (rw (h, f) (replicate_more n fresh_end)))
+pub end_there_by : (ends : LineEnds) (peer i : ℕ) (x : LineEnd) → i ≡ slot peer → x ≡ get_or (vec_items ends.ends) i x → end_at (ends_of ends) (slot peer) ≡ end_of x
+end_there_by ends peer i x s is = end_there ends peer i x s is

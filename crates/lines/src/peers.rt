@@ -39,6 +39,7 @@ impl LineEnds {
     }
 
     // The last number that was taken from a peer.
+    #[tactic(auto, using(crate::proofs::Slots::end_there_by))]
     pub fn taken(&self, peer: NodeId) -> SequenceNumber
         ensures { result ≡ record { number = (end_at (ends_of self.now) (slot peer.number)).taken } }
     {
@@ -46,6 +47,7 @@ impl LineEnds {
     }
 
     // The number of the last message that was sent to a peer.
+    #[tactic(auto, using(crate::proofs::Slots::end_there_by))]
     pub fn last_sent(&self, peer: NodeId) -> SequenceNumber
         ensures value { result ≡ record { number = last_sent (end_at (ends_of self.now) (slot peer.number)) } }
         ensures low { result.number ≤ 9223372036854775808 }
@@ -54,6 +56,7 @@ impl LineEnds {
     }
 
     // The places that there are for messages to a peer.
+    #[tactic(auto, using(crate::proofs::Slots::end_there_by))]
     pub fn room(&self, peer: NodeId) -> usize
         ensures { result ≡ room_of (end_at (ends_of self.now) (slot peer.number)) }
     {
@@ -78,6 +81,7 @@ impl LineEnds {
     }
 
     // How the number of a message from a peer stands to the last that was taken.
+    #[tactic(auto, using(crate::proofs::Slots::end_there_by))]
     pub fn standing(&self, peer: NodeId, number: SequenceNumber) -> Standing
         ensures { result ≡ standing (end_at (ends_of self.now) (slot peer.number)) number.number }
     {

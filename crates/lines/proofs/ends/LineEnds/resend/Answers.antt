@@ -1,8 +1,7 @@
 use Rattle.std.proofs.Common.{◌<◌, length, vec_items, sym, append-nil}
-use Rattle.std.proofs.lemmas.List.{take_all}
 use Rattle.lines.specs.Packets.{resent_all}
 use Rattle.lines.specs.Viewed.{ends_in}
-use Rattle.lines.proofs.Resends.{ends_more, grew_twice}
+use Rattle.lines.proofs.Resends.{ends_more}
 use Rattle.lines.proofs.ends.LineEnds.resend.Goals as goal
 
 pub loop-i-init : goal.loop-i-init
@@ -15,12 +14,3 @@ loop-i-preserved c =
     let x = c.end-item.result in
     let l : c.loop-i.i < length (vec_items c.args.self.now.ends) = rw v at c.loop-i-test.true in
     ends_more _ _ _ _ _ (vec_items c.args.self.now.ends) c.loop-i.i x c.loop-i.invariant l (rw v at c.end-item.is) c.peer_at.ensures c.in_ok-resend.ensures.all
-
-pub returns-in_err-resend-clause-some : goal.returns-in_err-resend-clause-some
-returns-in_err-resend-clause-some c = grew_twice _ _ _ _ c.loop-i.invariant c.in_err-resend.ensures.some
-
-pub returns : goal.returns
-returns c =
-    let v = c.deref-end-items.ensures.value in
-    let l = rw v at c.loop-i-test.false in
-    record { all = rw (take_all c.loop-i.i (vec_items c.args.self.now.ends) l) at c.loop-i.invariant; some = record { more = _; behind = c.loop-i.invariant } }
