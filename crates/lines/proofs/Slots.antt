@@ -28,22 +28,10 @@ module _ (ends : LineEnds) (peer i : ℕ) (x : LineEnd) (s : i ≡ slot peer) (i
   unfolding spares
   ready_there = ap (ready ends) (sym s) ∙ get_or-map spare (vec_items ends.ends) i x false inside ∙ ap spare (sym is)
 
-  -- it has come to y
-  pub put_there : (y : LineEnd) (e : End) → end_of y ≡ e → ends_in (set (vec_items ends.ends) i y) ≡ set (ends_of ends) (slot peer) e
-  put_there y e h = end_put (vec_items ends.ends) i y ∙ ap (λ k. set (ends_of ends) k (end_of y)) s ∙ ap (set (ends_of ends) (slot peer)) h
-
   -- it is as it was
   pub stays_there : (y : LineEnd) → end_of y ≡ end_of x → ends_in (set (vec_items ends.ends) i y) ≡ ends_of ends
   unfolding ends_in
   stays_there y h = end_put (vec_items ends.ends) i y ∙ ap (set (ends_of ends) i) (h ∙ sym end_there ∙ ap (end_at (ends_of ends)) (sym s)) ∙ set-get_or (ends_of ends) i fresh_end
-
-  -- it keeps one more where there is a place and memory, or is as it was
-  pub keeps_there : (r : Bool) → r ≡ ltb 0 (room_of (end_of x)) && spare x → r ≡ ltb 0 (room_of (end_at (ends_of ends) (slot peer))) && ready ends (slot peer)
-  keeps_there r h = h ∙ ap (λ (y : End). ltb 0 (room_of y) && spare x) (sym end_there) ∙ ap (λ (b : Bool). ltb 0 (room_of (end_at (ends_of ends) (slot peer))) && b) (sym ready_there)
-
-  pub kept_there : (y : LineEnd) (p : Parcel) (r : Bool) → end_of y ≡ cond r (keeping (end_of x) p) (end_of x) → ends_in (set (vec_items ends.ends) i y) ≡ cond r (set (ends_of ends) (slot peer) (keeping (end_at (ends_of ends) (slot peer)) p)) (ends_of ends)
-  kept_there y p true h = put_there y (keeping (end_at (ends_of ends) (slot peer)) p) (h ∙ sym (ap (λ (e : End). keeping e p) end_there))
-  kept_there y p false h = stays_there y h
 
   -- whether there is memory for one more at an end that has come to y
   pub spare_put : (y : LineEnd) → get_or (spares (set (vec_items ends.ends) i y)) (slot peer) false ≡ spare y
@@ -61,6 +49,3 @@ module _ (ends : LineEnds) (peer i : ℕ) (x : LineEnd) (s : i ≡ slot peer) (i
     | inl t ↦ subst (λ (k : ℕ). get_or (spares (set (vec_items ends.ends) i y)) k false ≡ true) (sym (t.1 ∙ s)) (spare_put y ∙ h (sym ready_there ∙ ap (ready ends) (sym (t.1 ∙ s)) ∙ e))
     | inr t ↦ ap (λ (bs : List Bool). get_or bs j false) (map-set spare (vec_items ends.ends) i y) ∙ get_or-set_other (spares_of ends) i j (spare y) false t.1 ∙ e
   ]
-
-pub end_there_by : (ends : LineEnds) (peer i : ℕ) (x : LineEnd) → i ≡ slot peer → x ≡ get_or (vec_items ends.ends) i x → end_at (ends_of ends) (slot peer) ≡ end_of x
-end_there_by ends peer i x s is = end_there ends peer i x s is

@@ -1,4 +1,5 @@
 // What a node does at its end of the line to each peer.
+#![tactic(auto, using(crate::proofs::Slots::end_there, crate::proofs::Slots::ready_there, crate::proofs::Slots::end_put, crate::proofs::Slots::stays_there, crate::proofs::Slots::spare_put, crate::proofs::Slots::spares_stay, crate::proofs::Slots::ready_still))]
 ghost use Rattle.std.specs.Prelude.{◌≡◌, ℕ, ◌≤◌, true, ◌&&◌, replicate, IfOk, OnOk, if◌then◌else◌, is_ok, nat_le, nat_lt, slice_set};
 ghost use Rattle.std.specs.Result.{IsOkUnless};
 ghost use Rattle.coins.specs.Parcels.{parcel_of};
@@ -39,7 +40,6 @@ impl LineEnds {
     }
 
     // The last number that was taken from a peer.
-    #[tactic(auto, using(crate::proofs::Slots::end_there_by))]
     pub fn taken(&self, peer: NodeId) -> SequenceNumber
         ensures { result ≡ record { number = (end_at (ends_of self.now) (slot peer.number)).taken } }
     {
@@ -47,7 +47,6 @@ impl LineEnds {
     }
 
     // The number of the last message that was sent to a peer.
-    #[tactic(auto, using(crate::proofs::Slots::end_there_by))]
     pub fn last_sent(&self, peer: NodeId) -> SequenceNumber
         ensures value { result ≡ record { number = last_sent (end_at (ends_of self.now) (slot peer.number)) } }
         ensures low { result.number ≤ 9223372036854775808 }
@@ -56,7 +55,6 @@ impl LineEnds {
     }
 
     // The places that there are for messages to a peer.
-    #[tactic(auto, using(crate::proofs::Slots::end_there_by))]
     pub fn room(&self, peer: NodeId) -> usize
         ensures { result ≡ room_of (end_at (ends_of self.now) (slot peer.number)) }
     {
@@ -81,7 +79,6 @@ impl LineEnds {
     }
 
     // How the number of a message from a peer stands to the last that was taken.
-    #[tactic(auto, using(crate::proofs::Slots::end_there_by))]
     pub fn standing(&self, peer: NodeId, number: SequenceNumber) -> Standing
         ensures { result ≡ standing (end_at (ends_of self.now) (slot peer.number)) number.number }
     {
