@@ -1,5 +1,6 @@
 // What a node does at its end of the line to each peer.
-#![tactic(auto, using(crate::proofs::Slots::end_there, crate::proofs::Slots::ready_there, crate::proofs::Slots::end_put, crate::proofs::Slots::stays_there, crate::proofs::Slots::spare_put, crate::proofs::Slots::spares_stay, crate::proofs::Slots::ready_still))]
+#![tactic(auto, using(crate::proofs::Slots::there))]
+
 ghost use Rattle.std.specs.Prelude.{◌≡◌, ℕ, ◌≤◌, true, ◌&&◌, replicate, IfOk, OnOk, if◌then◌else◌, is_ok, nat_le, nat_lt, slice_set};
 ghost use Rattle.std.specs.Result.{IsOkUnless};
 ghost use Rattle.coins.specs.Parcels.{parcel_of};
