@@ -54,3 +54,6 @@ unfolding all_fit
 fit_drop zero xs h = h
 fit_drop (suc k) [] h = h
 fit_drop (suc k) (x ∷ xs) h = fit_drop k xs (and_right (fits x) (all_fit xs) h)
+
+-- what is kept can be written
+pub ruleset fitting = (fit_none, fit_one, fit_more)

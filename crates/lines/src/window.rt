@@ -1,4 +1,6 @@
 // What one end of a line does: it keeps what is sent until it is answered for, and takes each number once, in order.
+#![tactic(auto, using(crate::proofs::Fitting::fitting))]
+
 ghost use Rattle.std.specs.Prelude.{◌≡◌, ◌≤◌, true, ◌&&◌, OnOk, if◌then◌else◌, is_ok, nat_le, nat_lt};
 ghost use Rattle.std.specs.Result.{IsOkUnless};
 ghost use Rattle.coins.specs.Parcels.{parcel_of};
