@@ -3,8 +3,6 @@ pub mod Line
 pub mod Fine
 pub mod Promise
 pub mod Through
-pub mod Cuts
 pub mod Slots
-pub mod Hears
 pub mod Fitting
 pub mod Resends

@@ -10,7 +10,7 @@ use Rattle.lines.specs.Viewed.{end_of, ends_in}
 use Rattle.wire.specs.Messages.{numbered_msg}
 use Rattle.wire.specs.Bytes.{encode}
 use Rattle.wire.specs.Frames.{Frame, framed}
-use Rattle.lines.specs.Packets.{packet_of, resent, resent_all, peer_at, Grew}
+use Rattle.lines.specs.Packets.{packet_of, resent, resent_all, peer_at}
 
 -- messages behind others: m is the number of the last before
 resent_behind : (s r : NodeId) (n m : ℕ) (ps qs : List Parcel) → m ≡ n + length ps → resent s r n (ps ++ qs) ≡ resent s r n ps ++ resent s r m qs
@@ -48,17 +48,10 @@ peers_more s es k d h =
 pub frames_more : (was before after : List Packet) (s r : NodeId) (n m : ℕ) (ps : List Parcel) (k : ℕ) (x : Parcel) (f : Frame) → before ≡ was ++ resent s r n (take k ps) → k < length ps → m ≡ suc (n + k) → x ≡ get_or ps k x →
     f ≡ framed (encode (numbered_msg x m)) → after ≡ before ++ record { sender = s; receiver = r; frame = f } ∷ [] → after ≡ was ++ resent s r n (take (k + 1) ps)
 frames_more was before after s r n m ps k x f i h e y w p =
-    p ∙ ap (λ (x : Frame). before ++ record { sender = s; receiver = r; frame = x } ∷ []) w ∙ ap (λ (z : Parcel). before ++ packet_of s r m z ∷ []) y ∙ ap (λ (xs : List Packet). xs ++ packet_of s r m (get_or ps k x) ∷ []) i
-    ∙ append_assoc was (resent s r n (take k ps)) (packet_of s r m (get_or ps k x) ∷ []) ∙ ap (λ (xs : List Packet). was ++ xs) (sym (resent_more s r n m ps k x h e))
+    let more = resent_more s r n m ps k x h e in grind (arith, append_assoc)
 
 -- what waits for one peer more, x, has gone out
 pub ends_more : (was before after : List Packet) (s r : NodeId) (es : List LineEnd) (k : ℕ) (x : LineEnd) → before ≡ was ++ resent_all s 0 (ends_in (take k es)) → k < length es → x ≡ get_or es k x → r ≡ peer_at k →
     after ≡ before ++ resent s r (end_of x).answered (end_of x).waiting → after ≡ was ++ resent_all s 0 (ends_in (take (k + 1) es))
 ends_more was before after s r es k x i h y e p =
-    p ∙ ap (λ (z : NodeId). before ++ resent s z (end_of x).answered (end_of x).waiting) e
-    ∙ ap (λ (z : LineEnd). before ++ resent s (peer_at k) (end_of z).answered (end_of z).waiting) y
-    ∙ ap (λ (xs : List Packet). xs ++ resent s (peer_at k) (end_of (get_or es k x)).answered (end_of (get_or es k x)).waiting) i
-    ∙ append_assoc was (resent_all s 0 (ends_in (take k es))) _ ∙ ap (λ (xs : List Packet). was ++ xs) (sym (peers_more s es k x h))
-
-pub grew_twice : (was mid after : List Packet) (more : List Packet) → mid ≡ was ++ more → Grew mid after → Grew was after
-grew_twice was mid after more e g = record { more = more ++ g.more; behind = g.behind ∙ ap (λ (xs : List Packet). xs ++ g.more) e ∙ append_assoc was more g.more }
+    let more = peers_more s es k x h in grind (arith, append_assoc)

@@ -1,11 +1,11 @@
 -- The ends in the code's memory, one by one.
-use Rattle.std.proofs.Common.{◌≡◌, ℕ, ◌+◌, ◌<◌, Bool, true, false, cond, ◌&&◌, ltb, List, [], ◌∷◌, ◌++◌, length, get_or, set, replicate, vec_items, sym, ap, ◌∙◌, subst, inl, inr, arith}
-use Rattle.std.proofs.lemmas.List.{get_or-map, map-set, map_push, replicate_more, set-get_or, get_or-set_same, get_or-set_other, length-map}
+use Rattle.std.proofs.Common.{◌≡◌, ℕ, ◌<◌, Bool, true, false, List, length, get_or, set, vec_items, sym, ap, ◌∙◌, subst, inl, inr, arith}
+use Rattle.std.proofs.lemmas.List.{get_or-map, map-set, set-get_or, get_or-set_other}
+use Rattle.std.proofs.lemmas.Grind.{common_steps}
 use Rattle.std.proofs.lemmas.Bool.Decides.{nat_tests, eqb_tells}
 use Rattle.lines.specs.declared.end.LineEnd.{LineEnd}
 use Rattle.lines.specs.declared.ends.LineEnds.{LineEnds}
-use Rattle.coins.specs.declared.parcel.Parcel.{Parcel}
-use Rattle.lines.specs.Ends.{End, fresh_end, slot, end_at, room_of, keeping}
+use Rattle.lines.specs.Ends.{fresh_end, slot, end_at}
 use Rattle.lines.specs.Viewed.{end_of, ends_in, ends_of, spare, spares, spares_of, ready}
 
 slot_inside : (peer i : ℕ) → i ≡ slot peer → i < 257
@@ -22,33 +22,21 @@ module _ (ends : LineEnds) (peer i : ℕ) (x : LineEnd) (s : i ≡ slot peer) (i
 
   pub end_there : end_at (ends_of ends) (slot peer) ≡ end_of x
   unfolding ends_in
-  end_there = ap (end_at (ends_of ends)) (sym s) ∙ get_or-map end_of (vec_items ends.ends) i x fresh_end inside ∙ ap end_of (sym is)
+  end_there = rw (← s) (get_or-map end_of (vec_items ends.ends) i x fresh_end inside ∙ ap end_of (sym is))
 
   pub ready_there : ready ends (slot peer) ≡ spare x
   unfolding spares
-  ready_there = ap (ready ends) (sym s) ∙ get_or-map spare (vec_items ends.ends) i x false inside ∙ ap spare (sym is)
-
-  -- it has come to y
-  pub put_there : (y : LineEnd) (e : End) → end_of y ≡ e → ends_in (set (vec_items ends.ends) i y) ≡ set (ends_of ends) (slot peer) e
-  put_there y e h = end_put (vec_items ends.ends) i y ∙ ap (λ k. set (ends_of ends) k (end_of y)) s ∙ ap (set (ends_of ends) (slot peer)) h
+  ready_there = rw (← s) (get_or-map spare (vec_items ends.ends) i x false inside ∙ ap spare (sym is))
 
   -- it is as it was
   pub stays_there : (y : LineEnd) → end_of y ≡ end_of x → ends_in (set (vec_items ends.ends) i y) ≡ ends_of ends
   unfolding ends_in
   stays_there y h = end_put (vec_items ends.ends) i y ∙ ap (set (ends_of ends) i) (h ∙ sym end_there ∙ ap (end_at (ends_of ends)) (sym s)) ∙ set-get_or (ends_of ends) i fresh_end
 
-  -- it keeps one more where there is a place and memory, or is as it was
-  pub keeps_there : (r : Bool) → r ≡ ltb 0 (room_of (end_of x)) && spare x → r ≡ ltb 0 (room_of (end_at (ends_of ends) (slot peer))) && ready ends (slot peer)
-  keeps_there r h = h ∙ ap (λ (y : End). ltb 0 (room_of y) && spare x) (sym end_there) ∙ ap (λ (b : Bool). ltb 0 (room_of (end_at (ends_of ends) (slot peer))) && b) (sym ready_there)
-
-  pub kept_there : (y : LineEnd) (p : Parcel) (r : Bool) → end_of y ≡ cond r (keeping (end_of x) p) (end_of x) → ends_in (set (vec_items ends.ends) i y) ≡ cond r (set (ends_of ends) (slot peer) (keeping (end_at (ends_of ends) (slot peer)) p)) (ends_of ends)
-  kept_there y p true h = put_there y (keeping (end_at (ends_of ends) (slot peer)) p) (h ∙ sym (ap (λ (e : End). keeping e p) end_there))
-  kept_there y p false h = stays_there y h
-
   -- whether there is memory for one more at an end that has come to y
   pub spare_put : (y : LineEnd) → get_or (spares (set (vec_items ends.ends) i y)) (slot peer) false ≡ spare y
   unfolding spares
-  spare_put y = ap (λ k. get_or (spares (set (vec_items ends.ends) i y)) k false) (sym s) ∙ ap (λ (bs : List Bool). get_or bs i false) (map-set spare (vec_items ends.ends) i y) ∙ get_or-set_same _ i (spare y) false (simp length-map inside)
+  spare_put y = let l = inside in grind (arith, common_steps, map-set)
 
   pub spares_stay : (y : LineEnd) → spare y ≡ spare x → spares (set (vec_items ends.ends) i y) ≡ spares_of ends
   unfolding spares
@@ -62,7 +50,5 @@ module _ (ends : LineEnds) (peer i : ℕ) (x : LineEnd) (s : i ≡ slot peer) (i
     | inr t ↦ ap (λ (bs : List Bool). get_or bs j false) (map-set spare (vec_items ends.ends) i y) ∙ get_or-set_other (spares_of ends) i j (spare y) false t.1 ∙ e
   ]
 
--- one more that is fresh
-pub fresh_more : (xs ys : List LineEnd) (y : LineEnd) (n : ℕ) → ys ≡ xs ++ y ∷ [] → end_of y ≡ fresh_end → ends_in xs ≡ replicate n fresh_end → ends_in ys ≡ replicate (n + 1) fresh_end
-unfolding ends_in
-fresh_more xs ys y n e f h = rw e (map_push end_of xs y ∙ (rw (h, f) (replicate_more n fresh_end)))
+-- what is known of the end at a peer's place
+pub ruleset there = (end_there, ready_there, end_put, stays_there, spare_put, spares_stay, ready_still)

@@ -8,7 +8,7 @@ use Rattle.lines.specs.declared.packet.Packet.{Packet}
 use Rattle.lines.specs.Ends.{End, slot, end_at, room_of}
 
 abbrev pub end_of : LineEnd → End
-end_of e = record { answered = e.answered; waiting = vec_items e.waiting; taken = e.taken }
+end_of e = record { answered = e.answered.number; waiting = vec_items e.waiting; taken = e.taken.number }
 
 unfoldable pub ends_in : List LineEnd → List End
 ends_in es = map end_of es

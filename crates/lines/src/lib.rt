@@ -11,6 +11,8 @@ pub mod packet;
 pub mod peers;
 pub mod post;
 mod resend;
+#[cfg(test)]
+mod tests;
 pub mod window;
 
 // The promise of lines, for a small protocol above them: each run over lossy lines is a run over perfect lines, and

@@ -1,43 +1,41 @@
 // Sending again what waits for an answer.
-ghost use Rattle.std.specs.Prelude.{◌≡◌, ◌+◌, ◌≤◌, true, ◌++◌, length};
+ghost use Rattle.std.specs.Prelude.{◌≡◌, ◌+◌, ◌≤◌, ◌++◌, length, OnOk};
 ghost use Rattle.lines.specs.Packets.{resent, resent_all, peer_at, Grew};
 ghost use Rattle.lines.specs.Viewed.{end_of, ends_of};
 
 use crate::end::LineEnd;
 use crate::ends::LineEnds;
 use crate::packet::Packet;
-use coins::ids::{BOSS, NodeId};
+use coins::ids::NodeId;
 use coins::parcel::Parcel;
+use std::alloc::AllocError;
 use wire::message::SequenceNumber;
 use wire::write::numbered;
 
-// Puts what waits for one receiver behind what goes out, with the numbers after `answered`. False where memory
-// did not suffice for all of it.
+// Puts what waits for one receiver behind what goes out, with the numbers after `answered`: all of it, or as much
+// as there is memory for.
 fn put_frames(
     waiting: &[Parcel],
     me: NodeId,
     peer: NodeId,
-    answered: u64,
+    answered: SequenceNumber,
     out: &mut Vec<Packet>,
-) -> bool
-    requires { answered + length waiting.now ≤ 9223372036854775808 }
-    ensures all { result ≡ true → out.new.items ≡ out.old.items ++ resent me peer answered waiting.now }
+) -> Result<(), AllocError>
+    requires { answered.number + length waiting.now ≤ 9223372036854775808 }
+    ensures all { OnOk result (out.new.items ≡ out.old.items ++ resent me peer answered.number waiting.now) }
     ensures some { Grew out.old.items out.new.items }
 {
     for (k, parcel) in waiting.iter().enumerate() {
         let number = SequenceNumber {
-            number: answered + k as u64 + 1,
+            number: answered.number + k as u64 + 1,
         };
-        let packet = Packet {
+        out.push(Packet {
             sender: me,
             receiver: peer,
             frame: numbered(parcel, number),
-        };
-        let Ok(()) = out.push(packet) else {
-            return false;
-        };
+        })?;
     }
-    true
+    Ok(())
 }
 
 // The peer at a place among the ends.
@@ -47,14 +45,14 @@ fn peer_at(i: usize) -> NodeId
     if i < 256 {
         NodeId { number: i as u16 }
     } else {
-        NodeId { number: BOSS }
+        NodeId::boss()
     }
 }
 
 impl LineEnd {
-    // Sends again all that waits for the peer's answer. False where memory did not suffice for all of it.
-    pub fn resend(&self, me: NodeId, peer: NodeId, out: &mut Vec<Packet>) -> bool
-        ensures all { result ≡ true → out.new.items ≡ out.old.items ++ resent me peer (end_of self.now).answered (end_of self.now).waiting }
+    // Sends again all that waits for the peer's answer, or as much as there is memory for.
+    pub fn resend(&self, me: NodeId, peer: NodeId, out: &mut Vec<Packet>) -> Result<(), AllocError>
+        ensures all { OnOk result (out.new.items ≡ out.old.items ++ resent me peer (end_of self.now).answered (end_of self.now).waiting) }
         ensures some { Grew out.old.items out.new.items }
     {
         put_frames(self.waiting.as_slice(), me, peer, self.answered, out)
@@ -62,16 +60,14 @@ impl LineEnd {
 }
 
 impl LineEnds {
-    // Sends again all that waits for an answer, by the peers' places. False where memory did not suffice for all.
-    pub fn resend(&self, me: NodeId, out: &mut Vec<Packet>) -> bool
-        ensures all { result ≡ true → out.new.items ≡ out.old.items ++ resent_all me 0 (ends_of self.now) }
+    // Sends again all that waits for an answer, by the peers' places, or as much as there is memory for.
+    pub fn resend(&self, me: NodeId, out: &mut Vec<Packet>) -> Result<(), AllocError>
+        ensures all { OnOk result (out.new.items ≡ out.old.items ++ resent_all me 0 (ends_of self.now)) }
         ensures some { Grew out.old.items out.new.items }
     {
         for (i, end) in self.ends.iter().enumerate() {
-            if !end.resend(me, peer_at(i), out) {
-                return false;
-            }
+            end.resend(me, peer_at(i), out)?;
         }
-        true
+        Ok(())
     }
 }

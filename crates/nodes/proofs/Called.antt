@@ -1,5 +1,6 @@
 -- What was sent by a step that had a place for it.
-use Rattle.std.proofs.Common.{◌≡◌, ℕ, zero, suc, Bool, true, cond, List, [], ◌∷◌, ◌++◌, length, take, set, vec_items, Vec, sym, refl, ap, ◌∙◌, Option, Ok}
+use Rattle.std.proofs.Common.{◌≡◌, ℕ, zero, suc, Bool, true, cond, List, [], ◌∷◌, ◌++◌, length, take, set, vec_items, Vec, sym, refl, ap, ◌∙◌, Option, Result, Ok}
+use Rattle.std.specs.Result.{is_ok}
 use Rattle.std.specs.declared.alloc.Global.{Global}
 use Rattle.std.proofs.lemmas.List.{take_at}
 use Rattle.coins.specs.declared.ids.NodeId.{NodeId}
@@ -20,12 +21,12 @@ pub record Sent (me : NodeId) (p : Option Mail) (work : Work) (es es' : List End
   pub ends : es' ≡ kept_for p work es
   pub out : os' ≡ os ++ out_for me p work es
 
-pub sent : (r : Bool) (me me' : NodeId) (p : Option Mail) (work work' : Work) (ends : LineEnds) (out : Vec Packet Global) (es es' : List End) (os os' : List Packet) →
-    can_send p ends out ≡ true → me' ≡ me → work' ≡ work → ends_of ends ≡ es → vec_items out ≡ os → r ≡ can_send p ends out →
-    es' ≡ cond r (kept_for p work' (ends_of ends)) (ends_of ends) → os' ≡ cond r (vec_items out ++ out_for me' p work' (ends_of ends)) (vec_items out) →
+pub sent : {E : Type 0} (r : Result (Unit {0}) E) (me me' : NodeId) (p : Option Mail) (work work' : Work) (ends : LineEnds) (out : Vec Packet Global) (es es' : List End) (os os' : List Packet) →
+    can_send p ends out ≡ true → me' ≡ me → work' ≡ work → ends_of ends ≡ es → vec_items out ≡ os → is_ok r ≡ can_send p ends out →
+    es' ≡ cond (is_ok r) (kept_for p work' (ends_of ends)) (ends_of ends) → os' ≡ cond (is_ok r) (vec_items out ++ out_for me' p work' (ends_of ends)) (vec_items out) →
     Sent me p work es es' os os'
 sent r me me' p work work' ends out es es' os os' can m w e o d x y =
-    let t : r ≡ true = d ∙ can in
+    let t : is_ok r ≡ true = d ∙ can in
     record {
       ends = x ∙ ap (λ (b : Bool). cond b (kept_for p work' (ends_of ends)) (ends_of ends)) t ∙ ap (λ (v : Work). kept_for p v (ends_of ends)) w ∙ ap (kept_for p work) e;
       out = y ∙ ap (λ (b : Bool). cond b (vec_items out ++ out_for me' p work' (ends_of ends)) (vec_items out)) t

@@ -1,6 +1,7 @@
 -- A node: its state in the protocol above, and its ends of lines. What calls and arrivals do to the lines is the same
 -- for boss and helper, whatever their states are.
-use Rattle.std.specs.Prelude.{ℕ, List, [], ◌∷◌, ◌++◌, slice_set, Ok, Err}
+use Rattle.std.specs.Prelude.{ℕ, List, [], ◌∷◌, ◌++◌, slice_set, Ok, Err, Result}
+use Rattle.coins.specs.declared.answer.Refusal.{Refusal}
 use Rattle.coins.specs.declared.ids.LetterId.{LetterId}
 use Rattle.coins.specs.declared.ids.NodeId.{NodeId}
 use Rattle.coins.specs.declared.mail.Kind.{Kind}
@@ -9,7 +10,7 @@ use Rattle.coins.specs.Mails.{Taking}
 use Rattle.coins.specs.declared.mail.Untaken.TheVariants.{Later, Refused}
 use Rattle.coins.specs.Works.{Work, no_work}
 use Rattle.lines.specs.declared.heard.Heard.{Heard}
-use Rattle.lines.specs.declared.heard.Heard.TheVariants.{Next, Old, Ahead, Released, Refused as Unheard}
+use Rattle.lines.specs.declared.heard.Heard.TheVariants.{Next, Old, Ahead, Released}
 use Rattle.lines.specs.declared.packet.Packet.{Packet}
 use Rattle.lines.specs.Ends.{End, slot, end_at, room_of, taking}
 use Rattle.lines.specs.Packets.{answer_of, kept_for, out_for}
@@ -76,9 +77,9 @@ unmoved es s out r = record { node = record { state = s; ends = es }; out = out;
 
 -- What becomes of what was heard; `makes` is what the protocol above makes of the next message. One that was taken
 -- before is answered for again.
-abbrev pub by_heard : {S : Type 0} → NodeId → NodeId → List Packet → List End → S → (LetterId → Kind → Made S) → Heard → Received S
-by_heard me peer out es s makes (Next letter kind number) = after me peer number.number es out (makes letter kind)
-by_heard me peer out es s makes Old = unmoved es s (out ++ answer_of me peer (end_at es (slot peer.number)).taken ∷ []) IsOld
-by_heard me peer out es s makes Ahead = unmoved es s out IsAhead
-by_heard me peer out es s makes Released = unmoved es s out IsReleased
-by_heard me peer out es s makes (Unheard why) = unmoved es s out (Turned why)
+abbrev pub by_heard : {S : Type 0} → NodeId → NodeId → List Packet → List End → S → (LetterId → Kind → Made S) → Result Heard Refusal → Received S
+by_heard me peer out es s makes (Ok (Next mail number)) = after me peer number.number es out (makes mail.letter mail.kind)
+by_heard me peer out es s makes (Ok Old) = unmoved es s (out ++ answer_of me peer (end_at es (slot peer.number)).taken ∷ []) IsOld
+by_heard me peer out es s makes (Ok Ahead) = unmoved es s out IsAhead
+by_heard me peer out es s makes (Ok Released) = unmoved es s out IsReleased
+by_heard me peer out es s makes (Err why) = unmoved es s out (Turned why)

@@ -54,9 +54,9 @@ impl BossNode {
     pub fn give(&mut self, letter: LetterId, to: NodeId, work: Work, out: &mut Vec<Packet>) -> Reply
         ensures { MatchBool (no_memory result) ((boss_at self.new ≡ boss_at self.old) × (out.new.items ≡ out.old.items)) (give_node (boss_at self.old) out.old.items letter to work ≡ record { node = boss_at self.new; out = out.new.items; reply = result }) }
     {
-        if !self.ends.reserve(to) {
+        let Ok(()) = self.ends.reserve(to) else {
             return Reply::NoMemory;
-        }
+        };
         let Ok(()) = out.reserve(1) else {
             return Reply::NoMemory;
         };
@@ -84,9 +84,9 @@ impl BossNode {
         requires memory { vec_len out.old + 2 ≤ vec_capacity out.old }
         ensures { MatchBool (starved result) ((boss_at self.new ≡ boss_at self.old) × (out.new.items ≡ out.old.items)) (after boss_id peer number.number (ends_of self.old.ends) out.old.items (boss_makes self.old.boss peer (ends_of self.old.ends) letter kind) ≡ record { node = boss_at self.new; out = out.new.items; receipt = result }) }
     {
-        if !self.ends.reserve(peer) {
+        let Ok(()) = self.ends.reserve(peer) else {
             return Receipt::NoMemory;
-        }
+        };
         let me = NodeId::boss();
         let mail = Mail {
             sender: peer,
@@ -96,8 +96,8 @@ impl BossNode {
         };
         match self.boss.arrive(mail, self.ends.room(peer)) {
             Ok(post) => {
-                self.ends.take(peer, number.number);
-                out.push_reserved(answer_for(me, peer, number.number));
+                self.ends.take(peer, number);
+                out.push_reserved(answer_for(me, peer, number));
                 let _ = self.ends.send(me, post, Work::empty(), out);
                 Receipt::Took
             }
@@ -114,18 +114,20 @@ impl BossNode {
             return Receipt::NoMemory;
         };
         match self.ends.hear(NodeId::boss(), peer, bytes) {
-            Heard::Next {
-                letter,
-                kind,
+            Ok(Heard::Next { mail, number }) => self.take(
+                peer,
+                mail.letter,
+                mail.kind,
                 number,
-            } => self.take(peer, letter, kind, number, out),
-            Heard::Old => {
+                out,
+            ),
+            Ok(Heard::Old) => {
                 out.push_reserved(self.ends.answer(NodeId::boss(), peer));
                 Receipt::Old
             }
-            Heard::Ahead => Receipt::Ahead,
-            Heard::Released => Receipt::Released,
-            Heard::Refused(why) => Receipt::Refused(why),
+            Ok(Heard::Ahead) => Receipt::Ahead,
+            Ok(Heard::Released) => Receipt::Released,
+            Err(why) => Receipt::Refused(why),
         }
     }
 
@@ -134,7 +136,7 @@ impl BossNode {
         ensures { MatchBool (no_memory result) ((boss_at self.new ≡ boss_at self.old) × (out.new.items ≡ out.old.items)) (boss_ticks (boss_at self.old) out.old.items ≡ record { node = boss_at self.new; out = out.new.items; reply = result }) }
     {
         let before = out.len();
-        if self.ends.resend(NodeId::boss(), out) {
+        if self.ends.resend(NodeId::boss(), out).is_ok() {
             return Reply::Answered(Answer::Fine);
         }
         out.truncate(before);

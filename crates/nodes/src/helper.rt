@@ -60,9 +60,12 @@ impl HelperNode {
     ) -> Reply
         ensures { MatchBool (no_memory result) ((helper_at self.new ≡ helper_at self.old) × (out.new.items ≡ out.old.items)) (share_node (helper_at self.old) out.old.items letter to work ≡ record { node = helper_at self.new; out = out.new.items; reply = result }) }
     {
-        if !self.ends.reserve(to) || !self.ends.reserve(NodeId::boss()) {
+        let Ok(()) = self.ends.reserve(to) else {
             return Reply::NoMemory;
-        }
+        };
+        let Ok(()) = self.ends.reserve(NodeId::boss()) else {
+            return Reply::NoMemory;
+        };
         let Ok(()) = out.reserve(1) else {
             return Reply::NoMemory;
         };
@@ -78,9 +81,9 @@ impl HelperNode {
     pub fn rest(&mut self, letter: LetterId, out: &mut Vec<Packet>) -> Reply
         ensures { MatchBool (no_memory result) ((helper_at self.new ≡ helper_at self.old) × (out.new.items ≡ out.old.items)) (rest_node (helper_at self.old) out.old.items letter ≡ record { node = helper_at self.new; out = out.new.items; reply = result }) }
     {
-        if !self.ends.reserve(NodeId::boss()) {
+        let Ok(()) = self.ends.reserve(NodeId::boss()) else {
             return Reply::NoMemory;
-        }
+        };
         let Ok(()) = out.reserve(1) else {
             return Reply::NoMemory;
         };
@@ -103,9 +106,9 @@ impl HelperNode {
         requires memory { vec_len out.old + 2 ≤ vec_capacity out.old }
         ensures { MatchBool (starved result) ((helper_at self.new ≡ helper_at self.old) × (out.new.items ≡ out.old.items)) (after self.old.helper.me peer number.number (ends_of self.old.ends) out.old.items (helper_makes self.old.helper (ends_of self.old.ends) letter kind) ≡ record { node = helper_at self.new; out = out.new.items; receipt = result }) }
     {
-        if !self.ends.reserve(NodeId::boss()) {
+        let Ok(()) = self.ends.reserve(NodeId::boss()) else {
             return Receipt::NoMemory;
-        }
+        };
         let boss = self.ends.room(NodeId::boss());
         let me = self.helper.id();
         let mail = Mail {
@@ -116,8 +119,8 @@ impl HelperNode {
         };
         match self.helper.arrive(mail, boss) {
             Ok(post) => {
-                self.ends.take(peer, number.number);
-                out.push_reserved(answer_for(me, peer, number.number));
+                self.ends.take(peer, number);
+                out.push_reserved(answer_for(me, peer, number));
                 let _ = self.ends.send(me, post, Work::empty(), out);
                 Receipt::Took
             }
@@ -135,18 +138,20 @@ impl HelperNode {
         };
         let me = self.helper.id();
         match self.ends.hear(me, peer, bytes) {
-            Heard::Next {
-                letter,
-                kind,
+            Ok(Heard::Next { mail, number }) => self.take(
+                peer,
+                mail.letter,
+                mail.kind,
                 number,
-            } => self.take(peer, letter, kind, number, out),
-            Heard::Old => {
+                out,
+            ),
+            Ok(Heard::Old) => {
                 out.push_reserved(self.ends.answer(me, peer));
                 Receipt::Old
             }
-            Heard::Ahead => Receipt::Ahead,
-            Heard::Released => Receipt::Released,
-            Heard::Refused(why) => Receipt::Refused(why),
+            Ok(Heard::Ahead) => Receipt::Ahead,
+            Ok(Heard::Released) => Receipt::Released,
+            Err(why) => Receipt::Refused(why),
         }
     }
 
@@ -154,9 +159,9 @@ impl HelperNode {
     fn flush(&mut self, out: &mut Vec<Packet>) -> Reply
         ensures { MatchBool (no_memory result) ((helper_at self.new ≡ helper_at self.old) × (out.new.items ≡ out.old.items)) (flush_node (helper_at self.old) out.old.items ≡ record { node = helper_at self.new; out = out.new.items; reply = result }) }
     {
-        if !self.ends.reserve(NodeId::boss()) {
+        let Ok(()) = self.ends.reserve(NodeId::boss()) else {
             return Reply::NoMemory;
-        }
+        };
         let Ok(()) = out.reserve(1) else {
             return Reply::NoMemory;
         };
@@ -172,7 +177,7 @@ impl HelperNode {
         ensures { MatchBool (no_memory result) ((helper_at self.new ≡ helper_at self.old) × (out.new.items ≡ out.old.items)) (helper_ticks (helper_at self.old) out.old.items ≡ record { node = helper_at self.new; out = out.new.items; reply = result }) }
     {
         let before = out.len();
-        if !self.ends.resend(self.helper.id(), out) {
+        if self.ends.resend(self.helper.id(), out).is_err() {
             out.truncate(before);
             return Reply::NoMemory;
         }

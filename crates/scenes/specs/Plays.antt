@@ -1,5 +1,5 @@
 -- What each command does to a scene, and what is replied.
-use Rattle.std.specs.Prelude.{ℕ, suc, ◌-◌, Bool, true, false, cond, ◌&&◌, List, [], ◌∷◌, ◌++◌, length, ◌==◌, nat_lt, slice_index_or, slice_set}
+use Rattle.std.specs.Prelude.{ℕ, suc, ◌-◌, Bool, true, false, cond, ◌&&◌, List, [], ◌∷◌, ◌++◌, length, ◌==◌, nat_lt, slice_index_or, slice_set, Ok, Err, Result}
 use Rattle.std.specs.List.{remove}
 use Rattle.coins.specs.declared.answer.Answer.TheVariants.{Fine, Refused}
 use Rattle.coins.specs.declared.answer.Refusal.{Refusal}
@@ -14,7 +14,7 @@ use Rattle.boss_coins.specs.declared.boss.Boss.{Boss}
 use Rattle.helper_coins.specs.declared.helper.Helper.{Helper}
 use Rattle.wire.specs.Frames.{frame_bytes}
 use Rattle.lines.specs.declared.heard.Heard.{Heard}
-use Rattle.lines.specs.declared.heard.Heard.TheVariants.{Next, Old, Ahead, Released, Refused as Unheard}
+use Rattle.lines.specs.declared.heard.Heard.TheVariants.{Next, Old, Ahead, Released}
 use Rattle.lines.specs.declared.packet.Packet.{Packet}
 use Rattle.lines.specs.Ends.{End, slot, end_at}
 use Rattle.lines.specs.Packets.{packet_of, answer_of}
@@ -180,12 +180,12 @@ plays s (Come from r) work = play_come s from r
 
 -- Bytes that nobody sent come to a node. Those that would be taken, or would release what is kept, are made up well:
 -- they are not played.
-abbrev pub is_harmless : Heard → Bool
-is_harmless (Next letter kind number) = false
-is_harmless Old = true
-is_harmless Ahead = true
-is_harmless Released = false
-is_harmless (Unheard why) = true
+abbrev pub is_harmless : Result Heard Refusal → Bool
+is_harmless (Ok (Next mail number)) = false
+is_harmless (Ok Old) = true
+is_harmless (Ok Ahead) = true
+is_harmless (Ok Released) = false
+is_harmless (Err why) = true
 
 abbrev pub play_bring : Scene → NodeId → NodeId → List ℕ → Out
 play_bring s from r bs =

@@ -1,5 +1,4 @@
 use Rattle.std.proofs.Common.{vec_items, sym, append-nil, arith}
-use Rattle.std.proofs.lemmas.List.{take_all}
 use Rattle.lines.specs.Packets.{resent}
 use Rattle.lines.proofs.Resends.{frames_more}
 use Rattle.lines.proofs.resend.put_frames.Goals as goal
@@ -9,7 +8,4 @@ unfolding resent
 loop-k-init c = sym (append-nil (vec_items c.args.out.now))
 
 pub loop-k-preserved : goal.loop-k-preserved
-loop-k-preserved c = frames_more _ _ _ _ _ _ _ c.args.waiting.now c.loop-k.k c.index-waiting-k.result _ c.loop-k.invariant c.loop-k-test.true (omega arith) c.index-waiting-k.is c.numbered.ensures c.in-Ok.ensures.items
-
-pub returns : goal.returns
-returns c = record { all = λ _. rw (take_all c.loop-k.k c.args.waiting.now c.loop-k-test.false) at c.loop-k.invariant; some = record { more = _; behind = c.loop-k.invariant } }
+loop-k-preserved c = frames_more _ _ _ _ _ _ _ c.args.waiting.now c.loop-k.k c.index-waiting-k.result _ c.loop-k.invariant c.loop-k-test.true (omega arith) c.index-waiting-k.is c.numbered.ensures c.in_ok-push.ensures.items

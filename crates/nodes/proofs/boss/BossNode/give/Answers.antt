@@ -17,9 +17,9 @@ returns c =
     let ends = c.reserve.new.self in
     let out = c.reserve-2.new.self in
     let e : ends_of ends ≡ b.ends = c.reserve.ensures.same in
-    let o : vec_items out ≡ os = c.in-Ok.ensures.items in
+    let o : vec_items out ≡ os = c.in-Ok-reserve.ensures.items in
     let g : give_step b.state c.args.letter to c.room.result ≡ record { boss = c.give-done.new.self; outcome = c.give-done.result } = c.give-done.ensures in
-    let fits = give_fits ends out to c.room.result c.room.ensures (c.if-not-reserve.ensures.ready refl) (omega (arith, c.in-Ok.ensures.ok)) b.state c.args.letter in
+    let fits = give_fits ends out to c.room.result c.room.ensures c.in-Ok.ensures.ready (omega (arith, c.in-Ok-reserve.ensures.ok)) b.state c.args.letter in
     let s = sent c.send.result boss_id c.boss.result c.give-done.result.post c.args.work c.args.work ends out b.ends _ os _ (subst (λ (d : Called). can_send d.outcome.post ends out ≡ true) g fits) c.boss.ensures refl e o c.send.ensures.done c.send.ensures.ends c.send.ensures.out in
     ap (boss_did b os c.args.work) (ap (give_step b.state c.args.letter to) (sym (c.room.ensures ∙ ap (λ (es : List End). room_to es to) e)) ∙ g)
     ∙ called_so boss_id b.ends _ os _ c.args.work c.give-done.new.self c.give-done.result s

@@ -4,8 +4,8 @@ use Rattle.lines.specs.Packets.{Grew}
 use Rattle.nodes.proofs.Called.{taken_back}
 use Rattle.nodes.proofs.helper.HelperNode.tick.Goals as goal
 
-pub returns-then-not-resend : goal.returns-then-not-resend
-returns-then-not-resend c =
+pub returns-then-is_err : goal.returns-then-is_err
+returns-then-is_err c =
     (refl, taken_back (vec_items c.args.out.now) (vec_items c.resend.new.out) _ c.len-before.result (c.len-before.ensures ∙ c.args.out.now.ok.0) c.resend.ensures.some c.truncate.ensures.items)
 
 pub returns-in-NoMemory : goal.returns-in-NoMemory
