@@ -3,4 +3,6 @@
 
 pub mod boss;
 pub mod helper;
+pub mod member;
+pub mod node;
 pub mod receipt;

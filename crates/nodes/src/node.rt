@@ -1,0 +1,137 @@
+// One that takes part in the protocol above, with its ends of the lines: what is the same for boss and helper.
+ghost use Rattle.std.specs.Prelude.{◌≡◌, ℕ, ◌+◌, ◌≤◌, true, ◌++◌, vec_len, vec_capacity, replicate, IfOk, OnOk, MatchResult};
+ghost use Rattle.lines.specs.Ends.{slot, fresh_end};
+ghost use Rattle.lines.specs.Packets.{kept_for, out_for};
+ghost use Rattle.lines.specs.Viewed.{ends_of, ready, can_send};
+ghost use Rattle.nodes.specs.Arrivals.{Happens, takes, receives, resends};
+ghost use Rattle.nodes.specs.Viewed.{node_at};
+
+use crate::member::Member;
+use crate::receipt::Receipt;
+use coins::ids::{LetterId, NodeId};
+use coins::mail::{Kind, Mail, Untaken};
+use coins::work::Work;
+use lines::ends::LineEnds;
+use lines::heard::Heard;
+use lines::packet::Packet;
+use lines::post::answer_for;
+use std::alloc::{AllocError, Global};
+use wire::message::SequenceNumber;
+
+// It has no model: `ends` promises the ends themselves with their spare memory, and a model as `node_at` would hide it.
+#[derive(Drop)]
+pub struct Node<M> {
+    pub(crate) member: M,
+    pub(crate) ends: LineEnds,
+}
+
+impl<M: Member> Node<M> {
+    // With new ends.
+    pub(crate) fn with(heap: Global, member: M) -> Result<Node<M>, AllocError>
+        ensures { IfOk result (λ n. node_at n ≡ record { state = member; ends = replicate 257 fresh_end }) }
+    {
+        let ends = LineEnds::new(heap)?;
+        Ok(Node { member, ends })
+    }
+
+    // Its ends of the lines.
+    pub fn ends(&self) -> &LineEnds
+        ensures { result.now ≡ self.now.ends }
+    {
+        &self.ends
+    }
+
+    // Makes memory ready for one message more to a peer.
+    pub(crate) fn reserve(&mut self, peer: NodeId) -> Result<(), AllocError>
+        ensures same { node_at self.new ≡ node_at self.old }
+        ensures memory { (i : ℕ) → ready self.old.ends i ≡ true → ready self.new.ends i ≡ true }
+        ensures ready { OnOk result (ready self.new.ends (slot peer.number) ≡ true) }
+    {
+        if self.ends.reserve(peer) {
+            Ok(())
+        } else {
+            Err(AllocError)
+        }
+    }
+
+    // What a step sends is kept, and goes out. There are a place and memory for it.
+    pub(crate) fn send(&mut self, me: NodeId, post: Option<Mail>, work: Work, out: &mut Vec<Packet>)
+        requires { can_send post self.old.ends out.old ≡ true }
+        ensures node { node_at self.new ≡ record { state = self.old.member; ends = kept_for post work (ends_of self.old.ends) } }
+        ensures out { out.new.items ≡ out.old.items ++ out_for me post work (ends_of self.old.ends) }
+    {
+        let _ = self.ends.send(me, post, work, out);
+    }
+
+    // The next message of a peer's line comes.
+    fn take(
+        &mut self,
+        peer: NodeId,
+        letter: LetterId,
+        kind: Kind,
+        number: SequenceNumber,
+        out: &mut Vec<Packet>,
+    ) -> Result<Receipt, AllocError>
+        requires memory { vec_len out.old + 2 ≤ vec_capacity out.old }
+        ensures { Happens (λ n sent. takes M.protocol n sent peer letter kind number.number) (node_at self.old) out.old.items (node_at self.new) out.new.items result }
+    {
+        let to = self.member.replies_to(peer);
+        self.reserve(to)?;
+        let me = self.member.id();
+        let mail = Mail {
+            sender: peer,
+            receiver: me,
+            letter,
+            kind,
+        };
+        match self.member.arrive(mail, self.ends.room(to)) {
+            Ok(post) => {
+                self.ends.take(peer, number.number);
+                out.push_reserved(answer_for(me, peer, number.number));
+                self.send(me, post, Work::empty(), out);
+                Ok(Receipt::Took)
+            }
+            Err(Untaken::Later) => Ok(Receipt::Later),
+            Err(Untaken::Refused(why)) => Ok(Receipt::Refused(why)),
+        }
+    }
+
+    // Bytes come from a peer, whatever they are; what is sent goes behind `out`.
+    pub fn receive(
+        &mut self,
+        peer: NodeId,
+        bytes: &[u8],
+        out: &mut Vec<Packet>,
+    ) -> Result<Receipt, AllocError>
+        ensures { Happens (λ n sent. receives M.protocol n sent peer bytes.now) (node_at self.old) out.old.items (node_at self.new) out.new.items result }
+    {
+        out.reserve(2)?;
+        let me = self.member.id();
+        match self.ends.hear(me, peer, bytes) {
+            Heard::Next {
+                letter,
+                kind,
+                number,
+            } => self.take(peer, letter, kind, number, out),
+            Heard::Old => {
+                out.push_reserved(self.ends.answer(me, peer));
+                Ok(Receipt::Old)
+            }
+            Heard::Ahead => Ok(Receipt::Ahead),
+            Heard::Released => Ok(Receipt::Released),
+            Heard::Refused(why) => Ok(Receipt::Refused(why)),
+        }
+    }
+
+    // All that waits for an answer is sent again, behind `out`.
+    pub(crate) fn resend(&self, out: &mut Vec<Packet>) -> Result<(), AllocError>
+        ensures { MatchResult result (λ _. out.new.items ≡ resends M.protocol (node_at self.now) out.old.items) (λ _. out.new.items ≡ out.old.items) }
+    {
+        let before = out.len();
+        if self.ends.resend(self.member.id(), out) {
+            return Ok(());
+        }
+        out.truncate(before);
+        Err(AllocError)
+    }
+}
