@@ -2,7 +2,7 @@
 ghost use Rattle.std.specs.Prelude.{◌≡◌, [], IfOk};
 ghost use Rattle.nodes.specs.Arrivals.{Happens};
 ghost use Rattle.nodes.specs.BossSteps.{new_boss_node, give_node, say_node, boss_ticks};
-ghost use Rattle.nodes.specs.Viewed.{node_at};
+ghost use Rattle.nodes.specs.Viewed.{node_of};
 
 use crate::member::Member;
 use crate::node::Node;
@@ -36,14 +36,14 @@ pub type BossNode = Node<Boss>;
 
 impl Node<Boss> {
     pub fn new(heap: Global) -> Result<Node<Boss>, AllocError>
-        ensures { IfOk result (λ n. node_at n ≡ new_boss_node) }
+        ensures { IfOk result (λ n. node_of n ≡ new_boss_node) }
     {
         Node::with(heap, Boss::new())
     }
 
     // The boss's coins of all letters.
     pub fn boss(&self) -> &Boss
-        ensures { result.now ≡ (node_at self.now).state }
+        ensures { result.now ≡ (node_of self.now).state }
     {
         &self.member
     }
@@ -56,7 +56,7 @@ impl Node<Boss> {
         work: Work,
         out: &mut Vec<Packet>,
     ) -> Result<Answer, AllocError>
-        ensures { Happens (λ n sent. give_node n sent letter to work) (node_at self.old) out.old.items (node_at self.new) out.new.items result }
+        ensures { Happens (λ n sent. give_node n sent letter to work) (node_of self.old) out.old.items (node_of self.new) out.new.items result }
     {
         self.reserve(to)?;
         out.reserve(1)?;
@@ -67,14 +67,14 @@ impl Node<Boss> {
 
     // Says that a letter is done, if all its coins came back.
     pub fn say(&mut self, letter: LetterId) -> Answer
-        ensures { say_node (node_at self.old) [] letter ≡ record { node = node_at self.new; out = []; reply = result } }
+        ensures { say_node (node_of self.old) [] letter ≡ record { node = node_of self.new; out = []; reply = result } }
     {
         self.member.say(letter)
     }
 
     // A tick: all that waits for an answer is sent again, behind `out`.
     pub fn tick(&mut self, out: &mut Vec<Packet>) -> Result<Answer, AllocError>
-        ensures { Happens boss_ticks (node_at self.old) out.old.items (node_at self.new) out.new.items result }
+        ensures { Happens boss_ticks (node_of self.old) out.old.items (node_of self.new) out.new.items result }
     {
         self.resend(out)?;
         Ok(Answer::Fine)

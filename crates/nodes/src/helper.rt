@@ -2,7 +2,7 @@
 ghost use Rattle.std.specs.Prelude.{◌≡◌, IfOk};
 ghost use Rattle.nodes.specs.Arrivals.{Happens};
 ghost use Rattle.nodes.specs.HelperSteps.{new_helper_node, share_node, rest_node, flush_node, helper_ticks};
-ghost use Rattle.nodes.specs.Viewed.{node_at};
+ghost use Rattle.nodes.specs.Viewed.{node_of};
 
 use crate::member::Member;
 use crate::node::Node;
@@ -36,14 +36,14 @@ pub type HelperNode = Node<Helper>;
 
 impl Node<Helper> {
     pub fn new(heap: Global, me: NodeId) -> Result<Node<Helper>, AllocError>
-        ensures { IfOk result (λ n. node_at n ≡ new_helper_node me) }
+        ensures { IfOk result (λ n. node_of n ≡ new_helper_node me) }
     {
         Node::with(heap, Helper::new(me))
     }
 
     // The helper's coins of all letters.
     pub fn helper(&self) -> &Helper
-        ensures { result.now ≡ (node_at self.now).state }
+        ensures { result.now ≡ (node_of self.now).state }
     {
         &self.member
     }
@@ -56,7 +56,7 @@ impl Node<Helper> {
         work: Work,
         out: &mut Vec<Packet>,
     ) -> Result<Answer, AllocError>
-        ensures { Happens (λ n sent. share_node n sent letter to work) (node_at self.old) out.old.items (node_at self.new) out.new.items result }
+        ensures { Happens (λ n sent. share_node n sent letter to work) (node_of self.old) out.old.items (node_of self.new) out.new.items result }
     {
         self.reserve(to)?;
         self.reserve(NodeId::boss())?;
@@ -71,7 +71,7 @@ impl Node<Helper> {
 
     // It has finished a letter: all its coins of it go back.
     pub fn rest(&mut self, letter: LetterId, out: &mut Vec<Packet>) -> Result<Answer, AllocError>
-        ensures { Happens (λ n sent. rest_node n sent letter) (node_at self.old) out.old.items (node_at self.new) out.new.items result }
+        ensures { Happens (λ n sent. rest_node n sent letter) (node_of self.old) out.old.items (node_of self.new) out.new.items result }
     {
         self.reserve(NodeId::boss())?;
         out.reserve(1)?;
@@ -84,7 +84,7 @@ impl Node<Helper> {
 
     // Coins that waited for a place are sent, of one letter, if there is one.
     fn flush(&mut self, out: &mut Vec<Packet>) -> Result<Answer, AllocError>
-        ensures { Happens flush_node (node_at self.old) out.old.items (node_at self.new) out.new.items result }
+        ensures { Happens flush_node (node_of self.old) out.old.items (node_of self.new) out.new.items result }
     {
         self.reserve(NodeId::boss())?;
         out.reserve(1)?;
@@ -97,7 +97,7 @@ impl Node<Helper> {
 
     // A tick: all that waits for an answer is sent again, behind `out`; then coins that waited for a place are sent.
     pub fn tick(&mut self, out: &mut Vec<Packet>) -> Result<Answer, AllocError>
-        ensures { Happens helper_ticks (node_at self.old) out.old.items (node_at self.new) out.new.items result }
+        ensures { Happens helper_ticks (node_of self.old) out.old.items (node_of self.new) out.new.items result }
     {
         let before = out.len();
         self.resend(out)?;

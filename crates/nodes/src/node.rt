@@ -4,7 +4,7 @@ ghost use Rattle.lines.specs.Ends.{slot, fresh_end};
 ghost use Rattle.lines.specs.Packets.{kept_for, out_for};
 ghost use Rattle.lines.specs.Viewed.{ends_of, ready, can_send};
 ghost use Rattle.nodes.specs.Arrivals.{Happens, takes, receives, resends};
-ghost use Rattle.nodes.specs.Viewed.{node_at};
+ghost use Rattle.nodes.specs.Viewed.{node_of};
 
 use crate::member::Member;
 use crate::receipt::Receipt;
@@ -18,7 +18,7 @@ use lines::post::answer_for;
 use std::alloc::{AllocError, Global};
 use wire::message::SequenceNumber;
 
-// It has no model: `ends` promises the ends themselves with their spare memory, and a model as `node_at` would hide it.
+// It has no model: `ends` promises the ends themselves with their spare memory, and a model as `node_of` would hide it.
 #[derive(Drop)]
 pub struct Node<M> {
     pub(crate) member: M,
@@ -28,7 +28,7 @@ pub struct Node<M> {
 impl<M: Member> Node<M> {
     // With new ends.
     pub(crate) fn with(heap: Global, member: M) -> Result<Node<M>, AllocError>
-        ensures { IfOk result (λ n. node_at n ≡ record { state = member; ends = replicate 257 fresh_end }) }
+        ensures { IfOk result (λ n. node_of n ≡ record { state = member; ends = replicate 257 fresh_end }) }
     {
         let ends = LineEnds::new(heap)?;
         Ok(Node { member, ends })
@@ -43,7 +43,7 @@ impl<M: Member> Node<M> {
 
     // Makes memory ready for one message more to a peer.
     pub(crate) fn reserve(&mut self, peer: NodeId) -> Result<(), AllocError>
-        ensures same { node_at self.new ≡ node_at self.old }
+        ensures same { node_of self.new ≡ node_of self.old }
         ensures memory { (i : ℕ) → ready self.old.ends i ≡ true → ready self.new.ends i ≡ true }
         ensures ready { OnOk result (ready self.new.ends (slot peer.number) ≡ true) }
     {
@@ -57,7 +57,7 @@ impl<M: Member> Node<M> {
     // What a step sends is kept, and goes out. There are a place and memory for it.
     pub(crate) fn send(&mut self, me: NodeId, post: Option<Mail>, work: Work, out: &mut Vec<Packet>)
         requires { can_send post self.old.ends out.old ≡ true }
-        ensures node { node_at self.new ≡ record { state = self.old.member; ends = kept_for post work (ends_of self.old.ends) } }
+        ensures node { node_of self.new ≡ record { state = self.old.member; ends = kept_for post work (ends_of self.old.ends) } }
         ensures out { out.new.items ≡ out.old.items ++ out_for me post work (ends_of self.old.ends) }
     {
         let _ = self.ends.send(me, post, work, out);
@@ -73,7 +73,7 @@ impl<M: Member> Node<M> {
         out: &mut Vec<Packet>,
     ) -> Result<Receipt, AllocError>
         requires memory { vec_len out.old + 2 ≤ vec_capacity out.old }
-        ensures { Happens (λ n sent. takes M.protocol n sent peer letter kind number.number) (node_at self.old) out.old.items (node_at self.new) out.new.items result }
+        ensures { Happens (λ n sent. takes M.protocol n sent peer letter kind number.number) (node_of self.old) out.old.items (node_of self.new) out.new.items result }
     {
         let to = self.member.replies_to(peer);
         self.reserve(to)?;
@@ -103,7 +103,7 @@ impl<M: Member> Node<M> {
         bytes: &[u8],
         out: &mut Vec<Packet>,
     ) -> Result<Receipt, AllocError>
-        ensures { Happens (λ n sent. receives M.protocol n sent peer bytes.now) (node_at self.old) out.old.items (node_at self.new) out.new.items result }
+        ensures { Happens (λ n sent. receives M.protocol n sent peer bytes.now) (node_of self.old) out.old.items (node_of self.new) out.new.items result }
     {
         out.reserve(2)?;
         let me = self.member.id();
@@ -125,7 +125,7 @@ impl<M: Member> Node<M> {
 
     // All that waits for an answer is sent again, behind `out`.
     pub(crate) fn resend(&self, out: &mut Vec<Packet>) -> Result<(), AllocError>
-        ensures { MatchResult result (λ _. out.new.items ≡ resends M.protocol (node_at self.now) out.old.items) (λ _. out.new.items ≡ out.old.items) }
+        ensures { MatchResult result (λ _. out.new.items ≡ resends M.protocol (node_of self.now) out.old.items) (λ _. out.new.items ≡ out.old.items) }
     {
         let before = out.len();
         if self.ends.resend(self.member.id(), out) {
