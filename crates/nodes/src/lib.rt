@@ -6,3 +6,5 @@ pub mod helper;
 pub mod member;
 pub mod node;
 pub mod receipt;
+#[cfg(test)]
+mod tests;
