@@ -1,5 +1,5 @@
 -- What a step sends has a place: steps send only where there is one.
-use Rattle.std.proofs.Common.{◌≡◌, ℕ, zero, suc, ◌<◌, ◌⊎◌, true, List, [], ◌∷◌, set, vec_len, vec_capacity, Vec, refl, arith, Option, Some, None, IfOk}
+use Rattle.std.proofs.Common.{◌≡◌, ℕ, zero, suc, ◌<◌, ◌⊎◌, true, List, vec_len, vec_capacity, Vec, refl, arith, Option, Some, None, IfOk}
 use Rattle.std.specs.declared.alloc.Global.{Global}
 use Rattle.std.proofs.lemmas.Bool.{lt-ltb}
 use Rattle.std.proofs.lemmas.Grind.{common_steps}
@@ -14,7 +14,7 @@ use Rattle.helper_coins.specs.declared.helper.Helper.{Helper}
 use Rattle.helper_coins.specs.Helpers.{share_step}
 use Rattle.lines.specs.declared.ends.LineEnds.{LineEnds}
 use Rattle.lines.specs.declared.packet.Packet.{Packet}
-use Rattle.lines.specs.Ends.{End, slot, end_at, room_of, taking}
+use Rattle.lines.specs.Ends.{End, slot}
 use Rattle.lines.specs.Viewed.{ends_of, ready, can_send}
 use Rattle.nodes.specs.Arrivals.{HasPlace, room_to, took_from}
 use Rattle.nodes.specs.BossSteps.{boss_id}
@@ -41,12 +41,5 @@ pub share_fits : (h : Helper) (letter : LetterId) (to : NodeId) (peer boss : ℕ
 share_fits h letter to peer boss = grind (arith, common_steps)
 
 -- what was taken leaves the places as they were
-room_took : (es : List End) (i j n : ℕ) → room_of (end_at (set es i (taking (end_at es i) n)) j) ≡ room_of (end_at es j)
-room_took [] i j n = refl
-room_took (e ∷ es) zero zero n = refl
-room_took (e ∷ es) zero (suc j) n = refl
-room_took (e ∷ es) (suc i) zero n = refl
-room_took (e ∷ es) (suc i) (suc j) n = room_took es i j n
-
 pub room_taken : (es : List End) (peer to : NodeId) (n : ℕ) → room_to (took_from es peer n) to ≡ room_to es to
-room_taken es peer to n = room_took es (slot peer.number) (slot to.number) n
+room_taken es peer to n = grind (arith, common_steps)
