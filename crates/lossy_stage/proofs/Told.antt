@@ -8,11 +8,10 @@ use Rattle.helper_coins.specs.declared.helper.Helper.{Helper}
 use Rattle.lines.specs.declared.packet.Packet.{Packet}
 use Rattle.nodes.specs.declared.node.Node.{Node as Held}
 use Rattle.nodes.specs.Arrivals.{Node, Replied, Happens}
-use Rattle.nodes.specs.BossSteps.{new_boss_node}
 use Rattle.nodes.specs.HelperSteps.{new_helper_node}
 use Rattle.nodes.specs.Viewed.{node_of}
 use Rattle.scenes.specs.declared.command.Response.{Response}
-use Rattle.scenes.specs.Scenes.{Scene, staff, opening, no_node, node_at}
+use Rattle.scenes.specs.Scenes.{Scene, staff, no_node, node_at}
 use Rattle.scenes.specs.Plays.{Out, helper_is, helper_did}
 use Rattle.lossy_stage.specs.Outcomes.{Outcome}
 use Rattle.lossy_stage.specs.Tables.{helpers_in}
@@ -38,7 +37,7 @@ long xs = length-map xs node_of
 abbrev pub Tells : {R : Type 0} → (R → Response) → Result R AllocError → Result Response AllocError → Type 0
 Tells tell r q = MatchResult r (λ x. IsOkAnd q (λ y. y ≡ tell x)) (λ why. q ≡ Err why)
 
--- x is the helper at place i, which comes to y; the test b is passed
+-- x is the helper at place i, which comes to y; os is all that has gone out then
 module _ (b : Node Boss) (xs : List (Held Helper)) (net os : List Packet) (i : ℕ) (x y : Held Helper) (e : x ≡ get_or xs i x) (l : ltb i (length (helpers_in xs)) ≡ true) where
   abbrev before : Scene
   before = record { boss = b; helpers = helpers_in xs; net = net }
@@ -71,6 +70,3 @@ module _ (b : Node Boss) (xs : List (Held Helper)) (net os : List Packet) (i : �
 pub staff_more : (xs ys : List (Held Helper)) (y : Held Helper) (i : ℕ) → ys ≡ xs ++ y ∷ [] → node_of y ≡ new_helper_node (record { number = i }) → helpers_in xs ≡ staff i → helpers_in ys ≡ staff (i + 1)
 unfolding helpers_in
 staff_more xs ys y i e n h = rw e (map_push node_of xs y ∙ ap (λ (hs : List (Node Helper)). hs ++ node_of y ∷ []) h ∙ ap (λ (x : Node Helper). staff i ++ x ∷ []) n ∙ staff_on i)
-
-pub opened : (b : Node Boss) (hs : List (Node Helper)) (ps : List Packet) (n : ℕ) → b ≡ new_boss_node → hs ≡ staff n → ps ≡ [] → record { boss = b; helpers = hs; net = ps } ≡ opening n
-opened b hs ps n x y z = λ i. record { boss = x i; helpers = y i; net = z i }

@@ -21,6 +21,7 @@ pub(crate) fn refused(why: Refusal) -> Response
 }
 
 impl Table {
+    #[tactic(auto, using(crate::proofs::Told::staff_more), unfolding(crate::specs::Tables::helpers_in, scenes::specs::Scenes::staff))]
     pub(crate) fn new(heap: Global, n: u16) -> Result<Table, AllocError>
         requires { n ≤ 256 }
         ensures { IfOk result (λ t. scene t ≡ opening n) }
@@ -38,6 +39,7 @@ impl Table {
     }
 
     // Whether there is such a helper.
+    #[tactic(auto, using(crate::proofs::Told::long))]
     pub(crate) fn is_there(&self, helper: NodeId) -> bool
         ensures value { result ≡ is_there (scene self.now) helper }
         ensures inside { result ≡ true → helper.number < vec_len self.now.helpers }
