@@ -6,9 +6,8 @@ ghost use Rattle.lossy_stage.specs.Outcomes.{Outcome};
 ghost use Rattle.lossy_stage.specs.Tables.{scene};
 
 use crate::table::Table;
-use crate::wants::{told, told_of};
 use coins::answer::{Answer, Refusal};
-use coins::ids::{BOSS, LetterId, NodeId};
+use coins::ids::{LetterId, NodeId};
 use coins::work::Work;
 use nodes::boss::BossNode;
 use nodes::helper::HelperNode;
@@ -22,6 +21,7 @@ pub(crate) fn refused(why: Refusal) -> Response
 }
 
 impl Table {
+    #[tactic(auto, using(crate::proofs::Told::staff_more), unfolding(crate::specs::Tables::helpers_in, scenes::specs::Scenes::staff))]
     pub(crate) fn new(heap: Global, n: u16) -> Result<Table, AllocError>
         requires { n ≤ 256 }
         ensures { IfOk result (λ t. scene t ≡ opening n) }
@@ -39,6 +39,7 @@ impl Table {
     }
 
     // Whether there is such a helper.
+    #[tactic(auto, using(crate::proofs::Told::long))]
     pub(crate) fn is_there(&self, helper: NodeId) -> bool
         ensures value { result ≡ is_there (scene self.now) helper }
         ensures inside { result ≡ true → helper.number < vec_len self.now.helpers }
@@ -46,66 +47,93 @@ impl Table {
         (helper.number as usize) < self.helpers.len()
     }
 
-    pub(crate) fn give(&mut self, letter: LetterId, to: NodeId, work: Work) -> Response
+    pub(crate) fn give(
+        &mut self,
+        letter: LetterId,
+        to: NodeId,
+        work: Work,
+    ) -> Result<Response, AllocError>
         ensures { Outcome (play_give (scene self.old) letter to work) (scene self.old) (scene self.new) result }
     {
         if !self.is_there(to) {
-            return refused(Refusal::Malformed);
+            return Ok(refused(Refusal::Malformed));
         }
-        told(self.boss.give(letter, to, work, &mut self.net))
+        self.boss
+            .give(letter, to, work, &mut self.net)
+            .map(Response::Answered)
     }
 
     pub(crate) fn say(&mut self, letter: LetterId) -> Response
-        ensures { Outcome (play_say (scene self.old) letter) (scene self.old) (scene self.new) result }
+        ensures { play_say (scene self.old) letter ≡ record { scene = scene self.new; response = result } }
     {
         Response::Answered(self.boss.say(letter))
     }
 
-    pub(crate) fn share(&mut self, by: NodeId, letter: LetterId, to: NodeId, work: Work) -> Response
+    pub(crate) fn share(
+        &mut self,
+        by: NodeId,
+        letter: LetterId,
+        to: NodeId,
+        work: Work,
+    ) -> Result<Response, AllocError>
         ensures { Outcome (play_share (scene self.old) by letter to work) (scene self.old) (scene self.new) result }
     {
         if !self.is_there(by) || !self.is_there(to) {
-            return refused(Refusal::Malformed);
+            return Ok(refused(Refusal::Malformed));
         }
         let i = by.number as usize;
-        told(self.helpers[i].share(letter, to, work, &mut self.net))
+        self.helpers[i]
+            .share(letter, to, work, &mut self.net)
+            .map(Response::Answered)
     }
 
-    pub(crate) fn rest(&mut self, by: NodeId, letter: LetterId) -> Response
+    pub(crate) fn rest(&mut self, by: NodeId, letter: LetterId) -> Result<Response, AllocError>
         ensures { Outcome (play_rest (scene self.old) by letter) (scene self.old) (scene self.new) result }
     {
         if !self.is_there(by) {
-            return refused(Refusal::Malformed);
+            return Ok(refused(Refusal::Malformed));
         }
         let i = by.number as usize;
-        told(self.helpers[i].rest(letter, &mut self.net))
+        self.helpers[i]
+            .rest(letter, &mut self.net)
+            .map(Response::Answered)
     }
 
     // Time passes for a node.
-    pub(crate) fn tick(&mut self, by: NodeId) -> Response
+    pub(crate) fn tick(&mut self, by: NodeId) -> Result<Response, AllocError>
         ensures { Outcome (play_tick (scene self.old) by) (scene self.old) (scene self.new) result }
     {
         if self.is_there(by) {
             let i = by.number as usize;
-            return told(self.helpers[i].tick(&mut self.net));
+            return self.helpers[i].tick(&mut self.net).map(Response::Answered);
         }
-        if by.number == BOSS {
-            return told(self.boss.tick(&mut self.net));
+        if by.is_boss() {
+            return self.boss.tick(&mut self.net).map(Response::Answered);
         }
-        refused(Refusal::Malformed)
+        Ok(refused(Refusal::Malformed))
     }
 
     // Bytes come to a node from a peer.
-    pub(crate) fn bytes_come(&mut self, peer: NodeId, to: NodeId, bytes: &[u8]) -> Response
+    pub(crate) fn bytes_come(
+        &mut self,
+        peer: NodeId,
+        to: NodeId,
+        bytes: &[u8],
+    ) -> Result<Response, AllocError>
         ensures { Outcome (bytes_come (scene self.old) peer to bytes.now) (scene self.old) (scene self.new) result }
     {
         if self.is_there(to) {
             let i = to.number as usize;
-            return told_of(self.helpers[i].receive(peer, bytes, &mut self.net));
+            return self.helpers[i]
+                .receive(peer, bytes, &mut self.net)
+                .map(Response::Came);
         }
-        if to.number == BOSS {
-            return told_of(self.boss.receive(peer, bytes, &mut self.net));
+        if to.is_boss() {
+            return self
+                .boss
+                .receive(peer, bytes, &mut self.net)
+                .map(Response::Came);
         }
-        refused(Refusal::Malformed)
+        Ok(refused(Refusal::Malformed))
     }
 }

@@ -1,4 +1,5 @@
-// Boss, helpers and packets.
+// Boss, helpers and packets. Clauses see its fields by `scene`: with a model of that, each index among the helpers asks
+// for a proof that the model's list is as long as the memory's.
 ghost use Rattle.std.specs.Prelude.{◌≤◌, vec_len};
 
 use lines::packet::Packet;

@@ -1,10 +1,13 @@
 -- A node: its state in the protocol above, and its ends of lines. What calls and arrivals do to the lines is the same
 -- for boss and helper, whatever their states are.
-use Rattle.std.specs.Prelude.{ℕ, List, [], ◌∷◌, ◌++◌, slice_set, Ok, Err, Result}
+use Rattle.std.specs.Prelude.{◌≡◌, ℕ, ◌<◌, List, [], ◌∷◌, ◌++◌, slice_set, Option, Result, Ok, Err, IfSome, MatchResult}
+use Rattle.std.specs.declared.alloc.AllocError.{AllocError}
+use Rattle.coins.specs.declared.answer.Answer.{Answer}
 use Rattle.coins.specs.declared.answer.Refusal.{Refusal}
 use Rattle.coins.specs.declared.ids.LetterId.{LetterId}
 use Rattle.coins.specs.declared.ids.NodeId.{NodeId}
 use Rattle.coins.specs.declared.mail.Kind.{Kind}
+use Rattle.coins.specs.declared.mail.Mail.{Mail}
 use Rattle.coins.specs.declared.mail.Outcome.{Outcome}
 use Rattle.coins.specs.Mails.{Taking}
 use Rattle.coins.specs.declared.mail.Untaken.TheVariants.{Later, Refused}
@@ -13,43 +16,53 @@ use Rattle.lines.specs.declared.heard.Heard.{Heard}
 use Rattle.lines.specs.declared.heard.Heard.TheVariants.{Next, Old, Ahead, Released}
 use Rattle.lines.specs.declared.packet.Packet.{Packet}
 use Rattle.lines.specs.Ends.{End, slot, end_at, room_of, taking}
-use Rattle.lines.specs.Packets.{answer_of, kept_for, out_for}
+use Rattle.lines.specs.Packets.{answer_of, kept_for, out_for, resent_all}
+use Rattle.lines.specs.Hearing.{Hearing, hears}
 use Rattle.nodes.specs.declared.receipt.Receipt.{Receipt}
 use Rattle.nodes.specs.declared.receipt.Receipt.TheVariants.{Took as IsTaken, Old as IsOld, Ahead as IsAhead, Later as IsLater, Released as IsReleased, Refused as Turned}
-use Rattle.nodes.specs.declared.receipt.Reply.{Reply}
-use Rattle.nodes.specs.declared.receipt.Reply.TheVariants.{Answered}
 
 pub record Node (S : Type 0) : Type 0 where
   pub state : S
   pub ends : List End
 
--- what a call leaves, all that has gone out, and the reply; the same for bytes, and the receipt
-pub record Replied (S : Type 0) : Type 0 where
+-- what a call, or bytes that come, leave, all that has gone out, and what is replied
+pub record Replied (S R : Type 0) : Type 0 where
   pub node : Node S
   pub out : List Packet
-  pub reply : Reply
+  pub reply : R
 
-pub record Received (S : Type 0) : Type 0 where
-  pub node : Node S
-  pub out : List Packet
-  pub receipt : Receipt
+-- it is as the step says; or there was no memory, and nothing happened
+abbrev pub Happens : {S R : Type 0} → (Node S → List Packet → Replied S R) → Node S → List Packet → Node S → List Packet → Result R AllocError → Type 0
+Happens step node out node' out' r =
+    MatchResult r (λ reply. step node out ≡ record { node = node'; out = out'; reply = reply }) (λ _. (node' ≡ node) × (out' ≡ out))
 
 -- what the protocol above makes of a message
 pub record Made (S : Type 0) : Type 0 where
   pub state : S
   pub taking : Taking
 
+-- What lines know of the protocol above: the number of one that takes part; to whom it sends, if at all, when a message
+-- of a peer comes; and what it makes of the message, with so many places towards that one.
+pub record Protocol (S : Type 0) : Type 0 where
+  pub id : S → NodeId
+  pub replies_to : S → NodeId → NodeId
+  pub makes : S → NodeId → LetterId → Kind → ℕ → Made S
+
+-- what is sent goes to this one, where there is a place
+abbrev pub HasPlace : NodeId → ℕ → Option Mail → Type 0
+HasPlace to room post = IfSome post (λ mail. (mail.receiver ≡ to) × (0 < room))
+
 -- the places that there are towards a peer
 abbrev pub room_to : List End → NodeId → ℕ
 room_to es peer = room_of (end_at es (slot peer.number))
 
 -- a call: what it sends is kept, and goes out
-abbrev pub called : {S : Type 0} → NodeId → List End → List Packet → Work → S → Outcome → Replied S
+abbrev pub called : {S : Type 0} → NodeId → List End → List Packet → Work → S → Outcome → Replied S Answer
 called me es out work s o =
     record {
       node = record { state = s; ends = kept_for o.post work es };
       out = out ++ out_for me o.post work es;
-      reply = Answered o.answer;
+      reply = o.answer;
     }
 
 -- number n was taken from a peer
@@ -58,28 +71,46 @@ took_from es peer n = slice_set es (slot peer.number) (taking (end_at es (slot p
 
 -- The next message of a line, by what the protocol above made of it: it is taken, answered for, and what is sent for
 -- it goes out behind the answer; or nothing of the line changes.
-abbrev pub after_taking : {S : Type 0} → NodeId → NodeId → ℕ → List End → List Packet → S → Taking → Received S
+abbrev pub after_taking : {S : Type 0} → NodeId → NodeId → ℕ → List End → List Packet → S → Taking → Replied S Receipt
 after_taking me peer n es out s (Ok p) =
     record {
       node = record { state = s; ends = kept_for p no_work (took_from es peer n) };
       out = (out ++ answer_of me peer n ∷ []) ++ out_for me p no_work (took_from es peer n);
-      receipt = IsTaken;
+      reply = IsTaken;
     }
-after_taking me peer n es out s (Err Later) = record { node = record { state = s; ends = es }; out = out; receipt = IsLater }
-after_taking me peer n es out s (Err (Refused why)) = record { node = record { state = s; ends = es }; out = out; receipt = Turned why }
+after_taking me peer n es out s (Err Later) = record { node = record { state = s; ends = es }; out = out; reply = IsLater }
+after_taking me peer n es out s (Err (Refused why)) = record { node = record { state = s; ends = es }; out = out; reply = Turned why }
 
-abbrev pub after : {S : Type 0} → NodeId → NodeId → ℕ → List End → List Packet → Made S → Received S
+abbrev pub after : {S : Type 0} → NodeId → NodeId → ℕ → List End → List Packet → Made S → Replied S Receipt
 after me peer n es out t = after_taking me peer n es out t.state t.taking
 
--- nothing of the protocol above is touched
-abbrev pub unmoved : {S : Type 0} → List End → S → List Packet → Receipt → Received S
-unmoved es s out r = record { node = record { state = s; ends = es }; out = out; receipt = r }
+-- what the protocol above makes of a message, with the places that there are
+abbrev pub made_of : {S : Type 0} → Protocol S → S → NodeId → List End → LetterId → Kind → Made S
+made_of p s peer es letter kind = p.makes s peer letter kind (room_to es (p.replies_to s peer))
 
--- What becomes of what was heard; `makes` is what the protocol above makes of the next message. One that was taken
--- before is answered for again.
-abbrev pub by_heard : {S : Type 0} → NodeId → NodeId → List Packet → List End → S → (LetterId → Kind → Made S) → Result Heard Refusal → Received S
-by_heard me peer out es s makes (Ok (Next mail number)) = after me peer number.number es out (makes mail.letter mail.kind)
-by_heard me peer out es s makes (Ok Old) = unmoved es s (out ++ answer_of me peer (end_at es (slot peer.number)).taken ∷ []) IsOld
-by_heard me peer out es s makes (Ok Ahead) = unmoved es s out IsAhead
-by_heard me peer out es s makes (Ok Released) = unmoved es s out IsReleased
-by_heard me peer out es s makes (Err why) = unmoved es s out (Turned why)
+-- the next message of a peer's line comes, under the number n
+abbrev pub takes : {S : Type 0} → Protocol S → Node S → List Packet → NodeId → LetterId → Kind → ℕ → Replied S Receipt
+takes p node out peer letter kind n = after (p.id node.state) peer n node.ends out (made_of p node.state peer node.ends letter kind)
+
+-- nothing of the protocol above is touched
+abbrev pub unmoved : {S : Type 0} → List End → S → List Packet → Receipt → Replied S Receipt
+unmoved es s out r = record { node = record { state = s; ends = es }; out = out; reply = r }
+
+-- What becomes of what was heard. A message that was taken before is answered for again.
+abbrev pub by_heard : {S : Type 0} → Protocol S → NodeId → List Packet → List End → S → Result Heard Refusal → Replied S Receipt
+by_heard p peer out es s (Ok (Next mail number)) = takes p (record { state = s; ends = es }) out peer mail.letter mail.kind number.number
+by_heard p peer out es s (Ok Old) = unmoved es s (out ++ answer_of (p.id s) peer (end_at es (slot peer.number)).taken ∷ []) IsOld
+by_heard p peer out es s (Ok Ahead) = unmoved es s out IsAhead
+by_heard p peer out es s (Ok Released) = unmoved es s out IsReleased
+by_heard p peer out es s (Err why) = unmoved es s out (Turned why)
+
+abbrev pub by_hearing : {S : Type 0} → Protocol S → NodeId → List Packet → S → Hearing → Replied S Receipt
+by_hearing p peer out s h = by_heard p peer out h.ends s h.heard
+
+-- bytes come from a peer, whatever they are
+abbrev pub receives : {S : Type 0} → Protocol S → Node S → List Packet → NodeId → List ℕ → Replied S Receipt
+receives p node out peer bs = by_hearing p peer out node.state (hears (p.id node.state) peer node.ends bs)
+
+-- all that waits for an answer goes out again
+abbrev pub resends : {S : Type 0} → Protocol S → Node S → List Packet → List Packet
+resends p node out = out ++ resent_all (p.id node.state) 0 node.ends

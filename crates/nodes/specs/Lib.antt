@@ -3,4 +3,3 @@ pub mod Arrivals
 pub mod BossSteps
 pub mod HelperSteps
 pub mod Viewed
-pub mod HelperViewed

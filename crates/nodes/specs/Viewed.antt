@@ -1,8 +1,7 @@
--- The nodes that the code holds.
-use Rattle.boss_coins.specs.declared.boss.Boss.{Boss}
+-- The node that the code holds.
 use Rattle.lines.specs.Viewed.{ends_of}
-use Rattle.nodes.specs.declared.boss.BossNode.{BossNode}
+use Rattle.nodes.specs.declared.node.Node.{Node as Held}
 use Rattle.nodes.specs.Arrivals.{Node}
 
-abbrev pub boss_at : BossNode → Node Boss
-boss_at b = record { state = b.boss; ends = ends_of b.ends }
+abbrev pub node_of : {S : Type 0} → Held S → Node S
+node_of n = record { state = n.member; ends = ends_of n.ends }

@@ -1,145 +1,82 @@
 // The boss with its lines.
-ghost use Rattle.std.specs.Prelude.{◌≡◌, ◌+◌, ◌≤◌, [], IfOk, vec_len, vec_capacity, MatchBool};
-ghost use Rattle.lines.specs.Viewed.{ends_of};
-ghost use Rattle.nodes.specs.Receipts.{no_memory, starved};
-ghost use Rattle.nodes.specs.Arrivals.{after};
-ghost use Rattle.nodes.specs.BossSteps.{boss_id, new_boss_node, give_node, say_node, boss_makes, boss_hears, boss_ticks};
-ghost use Rattle.nodes.specs.Viewed.{boss_at};
+ghost use Rattle.std.specs.Prelude.{◌≡◌, [], IfOk};
+ghost use Rattle.nodes.specs.Arrivals.{Happens};
+ghost use Rattle.nodes.specs.BossSteps.{new_boss_node, give_node, say_node, boss_ticks};
+ghost use Rattle.nodes.specs.Viewed.{node_of};
 
-use crate::receipt::{Receipt, Reply};
+use crate::member::Member;
+use crate::node::Node;
 use boss_coins::boss::Boss;
 use coins::answer::Answer;
 use coins::ids::{LetterId, NodeId};
-use coins::mail::{Kind, Mail, Untaken};
+use coins::mail::{Mail, Taking};
 use coins::work::Work;
-use lines::ends::LineEnds;
-use lines::heard::Heard;
 use lines::packet::Packet;
-use lines::post::answer_for;
 use std::alloc::{AllocError, Global};
-use wire::message::SequenceNumber;
 
-#[derive(Drop)]
-pub struct BossNode {
-    boss: Boss,
-    ends: LineEnds,
+impl Member for Boss {
+    ghost use Rattle.nodes.specs.BossSteps.{boss_protocol};
+
+    ghost protocol = { boss_protocol };
+
+    fn id(&self) -> NodeId {
+        NodeId::boss()
+    }
+
+    fn replies_to(&self, peer: NodeId) -> NodeId {
+        peer
+    }
+
+    fn arrive(&mut self, mail: Mail, room: usize) -> Taking {
+        Boss::arrive(self, mail, room)
+    }
 }
 
-impl BossNode {
-    pub fn new(heap: Global) -> Result<BossNode, AllocError>
-        ensures { IfOk result (λ n. boss_at n ≡ new_boss_node) }
+pub type BossNode = Node<Boss>;
+
+impl Node<Boss> {
+    pub fn new(heap: Global) -> Result<Node<Boss>, AllocError>
+        ensures { IfOk result (λ n. node_of n ≡ new_boss_node) }
     {
-        let ends = LineEnds::new(heap)?;
-        Ok(BossNode {
-            boss: Boss::new(),
-            ends,
-        })
+        Node::with(heap, Boss::new())
     }
 
     // The boss's coins of all letters.
     pub fn boss(&self) -> &Boss
-        ensures { result.now ≡ (boss_at self.now).state }
+        ensures { result.now ≡ (node_of self.now).state }
     {
-        &self.boss
-    }
-
-    // Its ends of the lines.
-    pub fn ends(&self) -> &LineEnds
-        ensures { result.now ≡ self.now.ends }
-    {
-        &self.ends
+        &self.member
     }
 
     // Gives work of a letter to a helper; what is sent goes behind `out`.
-    pub fn give(&mut self, letter: LetterId, to: NodeId, work: Work, out: &mut Vec<Packet>) -> Reply
-        ensures { MatchBool (no_memory result) ((boss_at self.new ≡ boss_at self.old) × (out.new.items ≡ out.old.items)) (give_node (boss_at self.old) out.old.items letter to work ≡ record { node = boss_at self.new; out = out.new.items; reply = result }) }
+    pub fn give(
+        &mut self,
+        letter: LetterId,
+        to: NodeId,
+        work: Work,
+        out: &mut Vec<Packet>,
+    ) -> Result<Answer, AllocError>
+        ensures { Happens (λ n sent. give_node n sent letter to work) (node_of self.old) out.old.items (node_of self.new) out.new.items result }
     {
-        let Ok(()) = self.ends.reserve(to) else {
-            return Reply::NoMemory;
-        };
-        let Ok(()) = out.reserve(1) else {
-            return Reply::NoMemory;
-        };
-        let done = self.boss.give(letter, to, self.ends.room(to));
-        let _ = self.ends.send(NodeId::boss(), done.post, work, out);
-        Reply::Answered(done.answer)
+        self.reserve(to)?;
+        out.reserve(1)?;
+        let done = self.member.give(letter, to, self.ends.room(to));
+        self.send(NodeId::boss(), done.post, work, out);
+        Ok(done.answer)
     }
 
     // Says that a letter is done, if all its coins came back.
     pub fn say(&mut self, letter: LetterId) -> Answer
-        ensures { say_node (boss_at self.old) [] letter ≡ record { node = boss_at self.new; out = []; reply = Reply.Answered result } }
+        ensures { say_node (node_of self.old) [] letter ≡ record { node = node_of self.new; out = []; reply = result } }
     {
-        self.boss.say(letter)
-    }
-
-    // The next message of a helper's line comes.
-    fn take(
-        &mut self,
-        peer: NodeId,
-        letter: LetterId,
-        kind: Kind,
-        number: SequenceNumber,
-        out: &mut Vec<Packet>,
-    ) -> Receipt
-        requires memory { vec_len out.old + 2 ≤ vec_capacity out.old }
-        ensures { MatchBool (starved result) ((boss_at self.new ≡ boss_at self.old) × (out.new.items ≡ out.old.items)) (after boss_id peer number.number (ends_of self.old.ends) out.old.items (boss_makes self.old.boss peer (ends_of self.old.ends) letter kind) ≡ record { node = boss_at self.new; out = out.new.items; receipt = result }) }
-    {
-        let Ok(()) = self.ends.reserve(peer) else {
-            return Receipt::NoMemory;
-        };
-        let me = NodeId::boss();
-        let mail = Mail {
-            sender: peer,
-            receiver: me,
-            letter,
-            kind,
-        };
-        match self.boss.arrive(mail, self.ends.room(peer)) {
-            Ok(post) => {
-                self.ends.take(peer, number);
-                out.push_reserved(answer_for(me, peer, number));
-                let _ = self.ends.send(me, post, Work::empty(), out);
-                Receipt::Took
-            }
-            Err(Untaken::Later) => Receipt::Later,
-            Err(Untaken::Refused(why)) => Receipt::Refused(why),
-        }
-    }
-
-    // Bytes come from a helper, whatever they are; what is sent goes behind `out`.
-    pub fn receive(&mut self, peer: NodeId, bytes: &[u8], out: &mut Vec<Packet>) -> Receipt
-        ensures { MatchBool (starved result) ((boss_at self.new ≡ boss_at self.old) × (out.new.items ≡ out.old.items)) (boss_hears (boss_at self.old) out.old.items peer bytes.now ≡ record { node = boss_at self.new; out = out.new.items; receipt = result }) }
-    {
-        let Ok(()) = out.reserve(2) else {
-            return Receipt::NoMemory;
-        };
-        match self.ends.hear(NodeId::boss(), peer, bytes) {
-            Ok(Heard::Next { mail, number }) => self.take(
-                peer,
-                mail.letter,
-                mail.kind,
-                number,
-                out,
-            ),
-            Ok(Heard::Old) => {
-                out.push_reserved(self.ends.answer(NodeId::boss(), peer));
-                Receipt::Old
-            }
-            Ok(Heard::Ahead) => Receipt::Ahead,
-            Ok(Heard::Released) => Receipt::Released,
-            Err(why) => Receipt::Refused(why),
-        }
+        self.member.say(letter)
     }
 
     // A tick: all that waits for an answer is sent again, behind `out`.
-    pub fn tick(&mut self, out: &mut Vec<Packet>) -> Reply
-        ensures { MatchBool (no_memory result) ((boss_at self.new ≡ boss_at self.old) × (out.new.items ≡ out.old.items)) (boss_ticks (boss_at self.old) out.old.items ≡ record { node = boss_at self.new; out = out.new.items; reply = result }) }
+    pub fn tick(&mut self, out: &mut Vec<Packet>) -> Result<Answer, AllocError>
+        ensures { Happens boss_ticks (node_of self.old) out.old.items (node_of self.new) out.new.items result }
     {
-        let before = out.len();
-        if self.ends.resend(NodeId::boss(), out).is_ok() {
-            return Reply::Answered(Answer::Fine);
-        }
-        out.truncate(before);
-        Reply::NoMemory
+        self.resend(out)?;
+        Ok(Answer::Fine)
     }
 }

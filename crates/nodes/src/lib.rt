@@ -3,4 +3,8 @@
 
 pub mod boss;
 pub mod helper;
+pub mod member;
+pub mod node;
 pub mod receipt;
+#[cfg(test)]
+mod tests;

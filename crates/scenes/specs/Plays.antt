@@ -19,17 +19,14 @@ use Rattle.lines.specs.declared.packet.Packet.{Packet}
 use Rattle.lines.specs.Ends.{End, slot, end_at}
 use Rattle.lines.specs.Packets.{packet_of, answer_of}
 use Rattle.lines.specs.Hearing.{hears}
-use Rattle.nodes.specs.declared.receipt.Receipt.{Receipt}
-use Rattle.nodes.specs.declared.receipt.Receipt.TheVariants.{Took, Old as IsOld, Ahead as IsAhead, Later, Released as IsReleased, Refused as Turned, NoMemory as Starved}
-use Rattle.nodes.specs.declared.receipt.Reply.{Reply}
-use Rattle.nodes.specs.declared.receipt.Reply.TheVariants.{Answered as Replies, NoMemory as NoReply}
-use Rattle.nodes.specs.Arrivals.{Node, Replied, Received}
+use Rattle.nodes.specs.Arrivals.{Node, Replied}
 use Rattle.nodes.specs.BossSteps.{give_node, say_node, boss_hears, boss_ticks}
 use Rattle.nodes.specs.HelperSteps.{share_node, rest_node, helper_hears, helper_ticks}
 use Rattle.scenes.specs.declared.command.Command.{Command}
 use Rattle.scenes.specs.declared.command.Command.TheVariants.{Give, Share, Rest, Say, Tick, Pass, Lose, Twice, Late, Come}
+use Rattle.scenes.specs.declared.command.Pick.{Pick}
 use Rattle.scenes.specs.declared.command.Response.{Response}
-use Rattle.scenes.specs.declared.command.Response.TheVariants.{Answered, Came, NoMemory}
+use Rattle.scenes.specs.declared.command.Response.TheVariants.{Answered, Came}
 use Rattle.scenes.specs.Scenes.{Scene, node_at, ends_at}
 
 pub record Out : Type 0 where
@@ -45,19 +42,6 @@ is_there s i = nat_lt i.number (length s.helpers)
 abbrev pub is_boss : NodeId → Bool
 is_boss i = i.number == boss_number
 
-abbrev pub replied : Reply → Response
-replied (Replies a) = Answered a
-replied NoReply = NoMemory
-
-abbrev pub came : Receipt → Response
-came Took = Came Took
-came IsOld = Came IsOld
-came IsAhead = Came IsAhead
-came Later = Came Later
-came IsReleased = Came IsReleased
-came (Turned why) = Came (Turned why)
-came Starved = NoMemory
-
 abbrev pub boss_is : Scene → Node Boss → List Packet → Scene
 boss_is s b net = record { boss = b; helpers = s.helpers; net = net }
 
@@ -67,45 +51,40 @@ helper_is s i h net = record { boss = s.boss; helpers = slice_set s.helpers i h;
 abbrev pub net_is : Scene → List Packet → Scene
 net_is s net = record { boss = s.boss; helpers = s.helpers; net = net }
 
-abbrev pub boss_replied : Scene → Replied Boss → Out
-boss_replied s d = record { scene = boss_is s d.node d.out; response = replied d.reply }
+-- by what a node did; `tell` says how its reply is told
+abbrev pub boss_did : {R : Type 0} → Scene → (R → Response) → Replied Boss R → Out
+boss_did s tell d = record { scene = boss_is s d.node d.out; response = tell d.reply }
 
-abbrev pub helper_replied : Scene → ℕ → Replied Helper → Out
-helper_replied s i d = record { scene = helper_is s i d.node d.out; response = replied d.reply }
+abbrev pub helper_did : {R : Type 0} → Scene → ℕ → (R → Response) → Replied Helper R → Out
+helper_did s i tell d = record { scene = helper_is s i d.node d.out; response = tell d.reply }
 
 -- calls
 abbrev pub play_give : Scene → LetterId → NodeId → Work → Out
-play_give s letter to work = cond (is_there s to) (boss_replied s (give_node s.boss s.net letter to work)) (refuse s Malformed)
+play_give s letter to work = cond (is_there s to) (boss_did s Answered (give_node s.boss s.net letter to work)) (refuse s Malformed)
 
 abbrev pub play_say : Scene → LetterId → Out
-play_say s letter = boss_replied s (say_node s.boss s.net letter)
+play_say s letter = boss_did s Answered (say_node s.boss s.net letter)
 
 abbrev pub play_share : Scene → NodeId → LetterId → NodeId → Work → Out
 play_share s by letter to work =
     cond (is_there s by && is_there s to)
-    (helper_replied s by.number (share_node (node_at s.helpers by.number) s.net letter to work))
+    (helper_did s by.number Answered (share_node (node_at s.helpers by.number) s.net letter to work))
     (refuse s Malformed)
 
 abbrev pub play_rest : Scene → NodeId → LetterId → Out
 play_rest s by letter =
-    cond (is_there s by) (helper_replied s by.number (rest_node (node_at s.helpers by.number) s.net letter)) (refuse s Malformed)
+    cond (is_there s by) (helper_did s by.number Answered (rest_node (node_at s.helpers by.number) s.net letter)) (refuse s Malformed)
 
 abbrev pub play_tick : Scene → NodeId → Out
 play_tick s by =
-    cond (is_there s by) (helper_replied s by.number (helper_ticks (node_at s.helpers by.number) s.net))
-    (cond (is_boss by) (boss_replied s (boss_ticks s.boss s.net)) (refuse s Malformed))
+    cond (is_there s by) (helper_did s by.number Answered (helper_ticks (node_at s.helpers by.number) s.net))
+    (cond (is_boss by) (boss_did s Answered (boss_ticks s.boss s.net)) (refuse s Malformed))
 
 -- bytes come to a node from a peer
-abbrev pub boss_received : Scene → Received Boss → Out
-boss_received s d = record { scene = boss_is s d.node d.out; response = came d.receipt }
-
-abbrev pub helper_received : Scene → ℕ → Received Helper → Out
-helper_received s i d = record { scene = helper_is s i d.node d.out; response = came d.receipt }
-
 abbrev pub bytes_come : Scene → NodeId → NodeId → List ℕ → Out
 bytes_come s peer to bs =
-    cond (is_there s to) (helper_received s to.number (helper_hears (node_at s.helpers to.number) s.net peer bs))
-    (cond (is_boss to) (boss_received s (boss_hears s.boss s.net peer bs)) (refuse s Malformed))
+    cond (is_there s to) (helper_did s to.number Came (helper_hears (node_at s.helpers to.number) s.net peer bs))
+    (cond (is_boss to) (boss_did s Came (boss_hears s.boss s.net peer bs)) (refuse s Malformed))
 
 -- the packet with so many others of its line before it, or how many packets there are
 abbrev pub goes_on : NodeId → NodeId → Packet → Bool
@@ -114,6 +93,9 @@ goes_on s r p = p.sender.number == s.number && p.receiver.number == r.number
 unfoldable pub seek_packet : List Packet → NodeId → NodeId → ℕ → ℕ
 seek_packet [] s r k = 0
 seek_packet (p ∷ ps) s r k = cond (goes_on s r p) (cond (k == 0) 0 (suc (seek_packet ps s r (k - 1)))) (suc (seek_packet ps s r k))
+
+abbrev pub picked : Scene → Pick → ℕ
+picked s pick = seek_packet s.net pick.sender pick.receiver pick.before
 
 abbrev pub no_packet : Packet
 no_packet = record { sender = record { number = 0 }; receiver = record { number = 0 }; frame = [] }
@@ -172,10 +154,10 @@ plays s (Share by letter to) work = play_share s by letter to work
 plays s (Rest by letter) work = play_rest s by letter
 plays s (Say letter) work = play_say s letter
 plays s (Tick by) work = play_tick s by
-plays s (Pass from r k) work = play_pass s (seek_packet s.net from r k)
-plays s (Lose from r k) work = play_lose s (seek_packet s.net from r k)
-plays s (Twice from r k) work = play_twice s (seek_packet s.net from r k)
-plays s (Late from r k) work = play_late s (seek_packet s.net from r k)
+plays s (Pass pick) work = play_pass s (picked s pick)
+plays s (Lose pick) work = play_lose s (picked s pick)
+plays s (Twice pick) work = play_twice s (picked s pick)
+plays s (Late pick) work = play_late s (picked s pick)
 plays s (Come from r) work = play_come s from r
 
 -- Bytes that nobody sent come to a node. Those that would be taken, or would release what is kept, are made up well:

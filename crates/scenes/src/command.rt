@@ -3,7 +3,15 @@ use coins::answer::Answer;
 use coins::ids::{LetterId, NodeId};
 use nodes::receipt::Receipt;
 
-#[derive(Clone, Copy)]
+// A packet on its way: the one with so many others of its line before it.
+#[derive(Clone, Copy, Debug, PartialEq, Eq)]
+pub struct Pick {
+    pub sender: NodeId,
+    pub receiver: NodeId,
+    pub before: usize,
+}
+
+#[derive(Clone, Copy, Debug, PartialEq, Eq)]
 pub enum Command {
     // the boss gives work of a letter to a helper
     Give {
@@ -29,30 +37,14 @@ pub enum Command {
     Tick {
         by: NodeId,
     },
-    // a packet on its way comes: the one with so many others of its line before it
-    Pass {
-        sender: NodeId,
-        receiver: NodeId,
-        before: usize,
-    },
+    // a packet on its way comes
+    Pass(Pick),
     // it is lost
-    Lose {
-        sender: NodeId,
-        receiver: NodeId,
-        before: usize,
-    },
+    Lose(Pick),
     // it is doubled
-    Twice {
-        sender: NodeId,
-        receiver: NodeId,
-        before: usize,
-    },
+    Twice(Pick),
     // all other packets overtake it
-    Late {
-        sender: NodeId,
-        receiver: NodeId,
-        before: usize,
-    },
+    Late(Pick),
     // what a line keeps comes through: the next message is sent again and comes, or where all were taken the answer
     Come {
         sender: NodeId,
@@ -60,12 +52,10 @@ pub enum Command {
     },
 }
 
-#[derive(Clone, Copy)]
+#[derive(Clone, Copy, Debug, PartialEq, Eq)]
 pub enum Response {
     // to a call
     Answered(Answer),
     // to a packet that came
     Came(Receipt),
-    // there is no memory: nothing happened
-    NoMemory,
 }

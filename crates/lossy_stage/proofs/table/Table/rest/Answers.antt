@@ -1,17 +1,13 @@
-use Rattle.std.proofs.Common.{vec_items, sym, ◌∙◌, arith}
-use Rattle.helper_coins.specs.declared.helper.Helper.{Helper}
-use Rattle.nodes.specs.Arrivals.{Node}
-use Rattle.nodes.specs.Viewed.{boss_at}
-use Rattle.scenes.specs.Plays.{is_there}
-use Rattle.lossy_stage.specs.Tables.{scene}
+use Rattle.std.proofs.Common.{vec_items, sym, ◌∙◌}
 use Rattle.nodes.specs.HelperSteps.{rest_node}
-use Rattle.lossy_stage.proofs.Told.{helper_played, where_true}
+use Rattle.nodes.specs.Viewed.{node_of}
+use Rattle.scenes.specs.declared.command.Response.TheVariants.{Answered}
+use Rattle.lossy_stage.proofs.Told.{helper_played}
 use Rattle.lossy_stage.proofs.table.Table.rest.Goals as goal
 
 pub returns : goal.returns
 returns c =
     let t = c.args.self.now in
-    where_true (is_there (scene t) c.args.by) _ _ _ _ _ (sym c.is_there.ensures.value ∙ c.if-not-is_there.false)
-    (helper_played (boss_at t.boss) (vec_items t.helpers) (vec_items t.net) (vec_items c.rest.new.out) c.args.by.number c.index_mut.result.now c.rest.new.self
-    (omega (arith, t.helpers.ok.0, c.is_there.ensures.inside c.if-not-is_there.false)) c.index_mut.ensures.value
-    (λ (n : Node Helper). rest_node n (vec_items t.net) c.args.letter) c.rest.result c.told.result c.rest.ensures c.told.ensures)
+    let w = sym c.is_there.ensures.value ∙ c.if-not-is_there.false in
+    helper_played (node_of t.boss) (vec_items t.helpers) (vec_items t.net) (vec_items c.rest.new.out) c.args.by.number c.index_mut.result.now c.rest.new.self c.index_mut.ensures.value w
+    Answered (λ n sent. rest_node n sent c.args.letter) c.rest.result c.map.result c.rest.ensures c.map.ensures.cases _ _ w
