@@ -4,9 +4,7 @@ use Rattle.std.specs.Prelude.{◌≡◌, ℕ, ◌<◌, List, [], ◌∷◌, ◌+
 use Rattle.std.specs.declared.alloc.AllocError.{AllocError}
 use Rattle.coins.specs.declared.answer.Answer.{Answer}
 use Rattle.coins.specs.declared.answer.Refusal.{Refusal}
-use Rattle.coins.specs.declared.ids.LetterId.{LetterId}
 use Rattle.coins.specs.declared.ids.NodeId.{NodeId}
-use Rattle.coins.specs.declared.mail.Kind.{Kind}
 use Rattle.coins.specs.declared.mail.Mail.{Mail}
 use Rattle.coins.specs.declared.mail.Outcome.{Outcome}
 use Rattle.coins.specs.Mails.{Taking}
@@ -46,7 +44,7 @@ pub record Made (S : Type 0) : Type 0 where
 pub record Protocol (S : Type 0) : Type 0 where
   pub id : S → NodeId
   pub replies_to : S → NodeId → NodeId
-  pub makes : S → NodeId → LetterId → Kind → ℕ → Made S
+  pub makes : S → Mail → ℕ → Made S
 
 -- what is sent goes to this one, where there is a place
 abbrev pub HasPlace : NodeId → ℕ → Option Mail → Type 0
@@ -85,12 +83,12 @@ abbrev pub after : {S : Type 0} → NodeId → NodeId → ℕ → List End → L
 after me peer n es out t = after_taking me peer n es out t.state t.taking
 
 -- what the protocol above makes of a message, with the places that there are
-abbrev pub made_of : {S : Type 0} → Protocol S → S → NodeId → List End → LetterId → Kind → Made S
-made_of p s peer es letter kind = p.makes s peer letter kind (room_to es (p.replies_to s peer))
+abbrev pub made_of : {S : Type 0} → Protocol S → S → List End → Mail → Made S
+made_of p s es mail = p.makes s mail (room_to es (p.replies_to s mail.sender))
 
--- the next message of a peer's line comes, under the number n
-abbrev pub takes : {S : Type 0} → Protocol S → Node S → List Packet → NodeId → LetterId → Kind → ℕ → Replied S Receipt
-takes p node out peer letter kind n = after (p.id node.state) peer n node.ends out (made_of p node.state peer node.ends letter kind)
+-- the next message of a line comes, under the number n
+abbrev pub takes : {S : Type 0} → Protocol S → Node S → List Packet → Mail → ℕ → Replied S Receipt
+takes p node out mail n = after (p.id node.state) mail.sender n node.ends out (made_of p node.state node.ends mail)
 
 -- nothing of the protocol above is touched
 abbrev pub unmoved : {S : Type 0} → List End → S → List Packet → Receipt → Replied S Receipt
@@ -98,7 +96,7 @@ unmoved es s out r = record { node = record { state = s; ends = es }; out = out;
 
 -- What becomes of what was heard. A message that was taken before is answered for again.
 abbrev pub by_heard : {S : Type 0} → Protocol S → NodeId → List Packet → List End → S → Result Heard Refusal → Replied S Receipt
-by_heard p peer out es s (Ok (Next mail number)) = takes p (record { state = s; ends = es }) out peer mail.letter mail.kind number.number
+by_heard p peer out es s (Ok (Next mail number)) = takes p (record { state = s; ends = es }) out mail number.number
 by_heard p peer out es s (Ok Old) = unmoved es s (out ++ answer_of (p.id s) peer (end_at es (slot peer.number)).taken ∷ []) IsOld
 by_heard p peer out es s (Ok Ahead) = unmoved es s out IsAhead
 by_heard p peer out es s (Ok Released) = unmoved es s out IsReleased

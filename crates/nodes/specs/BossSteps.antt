@@ -40,7 +40,7 @@ boss_protocol =
     record {
       id = λ _. boss_id;
       replies_to = λ _ peer. peer;
-      makes = λ boss peer letter kind room. made_boss (receive_step boss peer letter kind room);
+      makes = λ boss mail room. made_boss (receive_step boss mail.sender mail.letter mail.kind room);
     }
 
 -- bytes come from a peer, whatever they are

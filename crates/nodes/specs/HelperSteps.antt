@@ -36,7 +36,7 @@ helper_protocol =
     record {
       id = λ h. h.me;
       replies_to = λ _ _. boss_id;
-      makes = λ h _ letter kind room. made_helper (arrive_step h letter kind room);
+      makes = λ h mail room. made_helper (arrive_step h mail.letter mail.kind room);
     }
 
 -- bytes come from a peer, whatever they are

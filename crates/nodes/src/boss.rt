@@ -58,7 +58,7 @@ impl Node<Boss> {
     ) -> Result<Answer, AllocError>
         ensures { Happens (λ n sent. give_node n sent letter to work) (node_of self.old) out.old.items (node_of self.new) out.new.items result }
     {
-        self.reserve(to)?;
+        self.ends.reserve(to)?;
         out.reserve(1)?;
         let done = self.member.give(letter, to, self.ends.room(to));
         self.send(NodeId::boss(), done.post, work, out);

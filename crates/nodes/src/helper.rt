@@ -58,8 +58,8 @@ impl Node<Helper> {
     ) -> Result<Answer, AllocError>
         ensures { Happens (λ n sent. share_node n sent letter to work) (node_of self.old) out.old.items (node_of self.new) out.new.items result }
     {
-        self.reserve(to)?;
-        self.reserve(NodeId::boss())?;
+        self.ends.reserve(to)?;
+        self.ends.reserve(NodeId::boss())?;
         out.reserve(1)?;
         let peer = self.ends.room(to);
         let boss = self.ends.room(NodeId::boss());
@@ -73,7 +73,7 @@ impl Node<Helper> {
     pub fn rest(&mut self, letter: LetterId, out: &mut Vec<Packet>) -> Result<Answer, AllocError>
         ensures { Happens (λ n sent. rest_node n sent letter) (node_of self.old) out.old.items (node_of self.new) out.new.items result }
     {
-        self.reserve(NodeId::boss())?;
+        self.ends.reserve(NodeId::boss())?;
         out.reserve(1)?;
         let boss = self.ends.room(NodeId::boss());
         let me = self.member.id();
@@ -86,7 +86,7 @@ impl Node<Helper> {
     fn flush(&mut self, out: &mut Vec<Packet>) -> Result<Answer, AllocError>
         ensures { Happens flush_node (node_of self.old) out.old.items (node_of self.new) out.new.items result }
     {
-        self.reserve(NodeId::boss())?;
+        self.ends.reserve(NodeId::boss())?;
         out.reserve(1)?;
         let boss = self.ends.room(NodeId::boss());
         let me = self.member.id();

@@ -19,6 +19,6 @@ pub trait Member: Drop {
 
     // A message has come, with so many places towards that one; what is sent for it has one of them.
     fn arrive(&mut self, mail: Mail, room: usize) -> Taking
-        ensures does { protocol.makes self.old mail.sender mail.letter mail.kind room ≡ record { state = self.new; taking = result } }
+        ensures does { protocol.makes self.old mail room ≡ record { state = self.new; taking = result } }
         ensures fits { IfOk result (HasPlace (protocol.replies_to self.old mail.sender) room) };
 }

@@ -1,8 +1,8 @@
 // One that takes part in the protocol above, with its ends of the lines: what is the same for boss and helper.
-ghost use Rattle.std.specs.Prelude.{◌≡◌, ℕ, ◌+◌, ◌≤◌, true, ◌++◌, vec_len, vec_capacity, replicate, IfOk, OnOk, MatchResult};
-ghost use Rattle.lines.specs.Ends.{slot, fresh_end};
+ghost use Rattle.std.specs.Prelude.{◌≡◌, ◌+◌, ◌≤◌, true, ◌++◌, vec_len, vec_capacity, replicate, IfOk, MatchResult};
+ghost use Rattle.lines.specs.Ends.{fresh_end};
 ghost use Rattle.lines.specs.Packets.{kept_for, out_for};
-ghost use Rattle.lines.specs.Viewed.{ends_of, ready, can_send};
+ghost use Rattle.lines.specs.Viewed.{ends_of, can_send};
 ghost use Rattle.nodes.specs.Arrivals.{Happens, takes, receives, resends};
 ghost use Rattle.nodes.specs.Viewed.{node_of};
 
@@ -41,15 +41,6 @@ impl<M: Member> Node<M> {
         &self.ends
     }
 
-    // Makes memory ready for one message more to a peer.
-    pub(crate) fn reserve(&mut self, peer: NodeId) -> Result<(), AllocError>
-        ensures same { node_of self.new ≡ node_of self.old }
-        ensures memory { (i : ℕ) → ready self.old.ends i ≡ true → ready self.new.ends i ≡ true }
-        ensures ready { OnOk result (ready self.new.ends (slot peer.number) ≡ true) }
-    {
-        self.ends.reserve(peer)
-    }
-
     // What a step sends is kept, and goes out. There are a place and memory for it.
     pub(crate) fn send(&mut self, me: NodeId, post: Option<Mail>, work: Work, out: &mut Vec<Packet>)
         requires { can_send post self.old.ends out.old ≡ true }
@@ -59,7 +50,7 @@ impl<M: Member> Node<M> {
         let _ = self.ends.send(me, post, work, out);
     }
 
-    // The next message of a peer's line comes.
+    // The next message of a line comes.
     fn take(
         &mut self,
         mail: Mail,
@@ -67,16 +58,15 @@ impl<M: Member> Node<M> {
         out: &mut Vec<Packet>,
     ) -> Result<Receipt, AllocError>
         requires memory { vec_len out.old + 2 ≤ vec_capacity out.old }
-        ensures { Happens (λ n sent. takes M.protocol n sent mail.sender mail.letter mail.kind number.number) (node_of self.old) out.old.items (node_of self.new) out.new.items result }
+        ensures { Happens (λ n sent. takes M.protocol n sent mail number.number) (node_of self.old) out.old.items (node_of self.new) out.new.items result }
     {
-        let peer = mail.sender;
-        let to = self.member.replies_to(peer);
-        self.reserve(to)?;
+        let to = self.member.replies_to(mail.sender);
+        self.ends.reserve(to)?;
         let me = self.member.id();
         match self.member.arrive(mail, self.ends.room(to)) {
             Ok(post) => {
-                self.ends.take(peer, number);
-                out.push_reserved(answer_for(me, peer, number));
+                self.ends.take(mail.sender, number);
+                out.push_reserved(answer_for(me, mail.sender, number));
                 self.send(me, post, Work::empty(), out);
                 Ok(Receipt::Took)
             }

@@ -8,14 +8,11 @@ use Rattle.nodes.proofs.node.Node.take.Goals as goal
 
 pub send-requires : goal.send-requires
 send-requires g c =
-    let p = g.M.Member.protocol in
-    let node = c.reserve.new.self in
+    let was = c.reserve.new.self in
     let ends = c.take.new.self in
-    let peer = c.args.mail.sender in
     let to = c.replies_to-to.result in
-    let w : p.replies_to node.member peer ≡ to = ap (λ n. p.replies_to n.state peer) c.reserve.ensures.same ∙ sym c.replies_to-to.ensures in
-    let t : room_to (ends_of ends) to ≡ room_to (ends_of node.ends) to = ap (λ (es : List End). room_to es to) c.take.ensures.after ∙ room_taken (ends_of node.ends) peer to c.args.number.number in
+    let t : room_to (ends_of ends) to ≡ room_to (ends_of was) to = ap (λ (es : List End). room_to es to) c.take.ensures.after ∙ room_taken (ends_of was) c.args.mail.sender to c.args.number.number in
     let q : ready ends (slot to.number) ≡ true = ap (λ (bs : List Bool). get_or bs (slot to.number) false) c.take.ensures.memory ∙ c.in_ok-reserve.ensures.ready in
     can ends c.push_reserved.new.self to c.room.result c.in-Ok.post
-    (subst (λ (x : NodeId). HasPlace x c.room.result c.in-Ok.post) w c.in-Ok.ensures.fits) (c.room.ensures ∙ sym t) q
+    (subst (λ (x : NodeId). HasPlace x c.room.result c.in-Ok.post) (sym c.replies_to-to.ensures) c.in-Ok.ensures.fits) (c.room.ensures ∙ sym t) q
     (omega (arith, c.push_reserved.ensures.len, c.push_reserved.ensures.capacity, c.requires.memory))
