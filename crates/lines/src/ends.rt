@@ -3,6 +3,7 @@ ghost use Rattle.std.specs.Prelude.{◌≡◌, vec_len};
 
 use crate::end::LineEnd;
 
+// Clauses see them by `ends_of` and `spares_of`, and by no Model, as they see one end.
 #[derive(Drop)]
 pub struct LineEnds {
     pub(crate) ends: Vec<LineEnd>,

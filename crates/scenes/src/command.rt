@@ -11,6 +11,8 @@ pub struct Pick {
     pub before: usize,
 }
 
+// The first four stand among the stage's commands too. One enum of them inside both would be no plainer: each match
+// goes over all, and gives each its own meaning.
 #[derive(Clone, Copy, Debug, PartialEq, Eq)]
 pub enum Command {
     // the boss gives work of a letter to a helper
