@@ -4,6 +4,7 @@ ghost use Rattle.nodes.specs.Receipts.{reply_of};
 
 use coins::answer::{Answer, Refusal};
 
+// The enum of a refusal stands inside it, as the project asks of an answer.
 #[derive(Clone, Copy, Debug, PartialEq, Eq)]
 pub enum Receipt {
     // the next message: taken, and answered for

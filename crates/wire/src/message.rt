@@ -9,7 +9,7 @@ pub struct SequenceNumber {
 }
 
 // What a message is for.
-#[derive(Clone, Copy)]
+#[derive(Clone, Copy, Debug, PartialEq, Eq)]
 pub enum Body {
     // it has that number
     Numbered(Kind),

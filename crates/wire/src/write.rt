@@ -11,7 +11,7 @@ use coins::mail::Kind;
 use coins::parcel::Parcel;
 use coins::work::LONGEST;
 
-// The number that stands for the body in a message.
+// The number that stands for the body in a message; it goes by the kind's, which is no conversion.
 fn body_number(body: Body) -> u8
     ensures { result ≡ body_number body }
 {
@@ -29,7 +29,8 @@ fn put(frame: &mut Frame, part: &[u8])
     let _ = frame.push_slice(part);
 }
 
-// Puts the kind, and what follows it.
+// Puts the kind, and what follows it. More and Back stay apart: of the two joined, the goal had only names to answer
+// by that the check makes up.
 fn put_body(frame: &mut Frame, body: Body, work: &[u8])
     requires room { length frame.old ≤ 16 }
     requires short { length work.now ≤ 256 }
