@@ -14,7 +14,7 @@ pub const GRANT: u32 = 1 << 20;
 
 // The boss's state: the highest letter ever opened, and for each of up to 64 letters that are not done its
 // number, 0 where the place is free, how many coins were ever given out, and how many came back. These are arrays of
-// their own, since the project asks for counts in a lent slice of words.
+// their own, since the project asks for counts in a lent slice of words; the numbers lie beside them as they do.
 #[derive(Drop)]
 pub struct Boss {
     highest: u32,

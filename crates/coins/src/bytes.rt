@@ -3,7 +3,7 @@ ghost use Rattle.std.specs.Prelude.{◌≡◌, ◌+◌, ◌<◌, ◌≤◌, ◌�
 
 use std::marker::Model;
 
-// At most MOST bytes, with zeros behind them.
+// At most MOST bytes, with zeros behind them. Fixed memory, as the project asks; the kit's ArrayVec is not Copy.
 #[derive(Clone, Copy)]
 pub struct Bytes<const MOST: usize> {
     len: usize,

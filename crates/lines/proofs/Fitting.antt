@@ -1,5 +1,5 @@
 -- What waits can be written.
-use Rattle.std.proofs.Common.{◌≡◌, ℕ, zero, suc, ◌<◌, Bool, true, false, ◌&&◌, ltb, List, [], ◌∷◌, ◌++◌, drop, refl, arith}
+use Rattle.std.proofs.Common.{◌≡◌, ℕ, zero, suc, ◌<◌, ◌≤◌, length, le-leb, Bool, true, false, ◌&&◌, ltb, List, [], ◌∷◌, ◌++◌, drop, refl, arith}
 use Rattle.std.specs.Cmp.Derive.{both_true}
 use Rattle.std.proofs.lemmas.Bool.Decides.{nat_tests}
 use Rattle.coins.specs.declared.mail.Kind.{Kind}
@@ -31,9 +31,10 @@ numbers : (a b c d : ℕ) → a < 4294967296 → b < 18446744073709551616 → c 
 numbers a b c d e f g h = grind (arith, nat_tests)
 
 -- a message, with the bytes that go with it
-pub fit_one : (m : Mail) (w : Work) → m.letter.number < 4294967296 → coins_in m.kind < 18446744073709551616 → m.sender.number < 65536 → m.receiver.number < 65536 → fits (parcel_of m w) ≡ true
-fit_one m w a b c d =
-    both_more (ltb m.letter.number 4294967296 && ltb (coins_in m.kind) 18446744073709551616) (ltb m.sender.number 65536 && ltb m.receiver.number 65536) _ (numbers m.letter.number (coins_in m.kind) m.sender.number m.receiver.number a b c d) (λ k. both_true k (bare_kind m.kind w))
+pub fit_one : (m : Mail) (w : Work) → length (bytes_for m.kind w) ≤ 256 → m.letter.number < 4294967296 → coins_in m.kind < 18446744073709551616 → m.sender.number < 65536 → m.receiver.number < 65536 → fits (parcel_of m w) ≡ true
+fit_one m w l a b c d =
+    both_more (ltb m.letter.number 4294967296 && ltb (coins_in m.kind) 18446744073709551616) (ltb m.sender.number 65536 && ltb m.receiver.number 65536) _ (numbers m.letter.number (coins_in m.kind) m.sender.number m.receiver.number a b c d)
+    (λ k. both_true k (both_true (bare_kind m.kind w) (le-leb (length (bytes_for m.kind w)) 256 l)))
 
 pub fit_none : (xs : List Parcel) → xs ≡ [] → all_fit xs ≡ true
 unfolding all_fit

@@ -20,7 +20,8 @@ use wire::message::{Body, Message, SequenceNumber};
 use wire::read::read;
 use wire::write::{acknowledgement, numbered};
 
-// The answer to a peer for all up to a number.
+// The answer to a peer for all up to a number. Here and below a node is told beside its peer: it has the one and looks
+// for the other, so a struct of both would be made anew at each call.
 pub fn answer_for(me: NodeId, peer: NodeId, number: SequenceNumber) -> Packet
     ensures { result ≡ answer_of me peer number.number }
 {

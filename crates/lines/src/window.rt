@@ -71,7 +71,8 @@ impl LineEnd {
         Ok(())
     }
 
-    // Keeps a message that is sent, until it is answered for; or nothing changes.
+    // Keeps a message that is sent, until it is answered for; or nothing changes. A parcel made elsewhere might have
+    // bytes beside mail that has none, so it is made here.
     pub fn keep(&mut self, mail: Mail, work: Work) -> Result<(), Full>
         ensures done { is_ok result ≡ nat_lt 0 (room_of (end_of self.old)) && spare self.old }
         ensures after { end_of self.new ≡ (if is_ok result then keeping (end_of self.old) (parcel_of mail work) else end_of self.old) }

@@ -3,7 +3,7 @@ ghost use Rattle.std.specs.Prelude.{◌≡◌, true, false, IfOk, string_bytes, 
 ghost use Rattle.script.specs.Lines.{is_line, line_in, play, settle, show, new};
 ghost use Rattle.text.specs.Hex.{bytes_of};
 ghost use Rattle.coins.specs.Works.{no_work, bytes_of as work_bytes};
-ghost use Rattle.runs.specs.System.{Runs, start};
+ghost use Rattle.runs.specs.System.{Reach, Runs, start};
 ghost use Rattle.stage.specs.Scenes.{opening, world};
 ghost use Rattle.stage.specs.Plays.{plays, Said};
 ghost use Rattle.rehearsal.specs.Steps.{follows, Acts, is_work, Plays, Does, Turns};
@@ -33,10 +33,17 @@ impl Model for Rehearsal {
 
     ghost Value = { Scene };
 
+    ghost use Rattle.stage.specs.Scenes.{world};
+    ghost use Rattle.runs.specs.System.{Reach};
+
     ghost view = { λ r. r.stage };
+
+    ghost invariant = { λ r. ∥ Reach (world r.stage) ∥₁ };
 }
 
+// A match, since through `map_err` the check does not see what is on the stage.
 fn staged(heap: Global, helpers: u16) -> Result<Stage, AllocError>
+    ensures reached { IfOk result (λ s. ∥ Reach (world s) ∥₁) }
     ensures opens { IfOk result (λ s. s ≡ opening helpers) }
     ensures starts { IfOk result (λ s. world s ≡ start helpers) }
 {
@@ -49,7 +56,8 @@ fn staged(heap: Global, helpers: u16) -> Result<Stage, AllocError>
 impl Rehearsal {
     // A rehearsal with eight helpers, on which nothing has happened.
     pub fn new(heap: Global) -> Result<Rehearsal, AllocError>
-        ensures { IfOk result (λ x. x ≡ opening 8) }
+        ensures opens { IfOk result (λ x. x ≡ opening 8) }
+        ensures reached { IfOk result (λ x. ∥ Reach (world x) ∥₁) }
     {
         Ok(Rehearsal {
             heap,
@@ -168,11 +176,15 @@ impl Rehearsal {
 
     // Plays a line, and puts what is shown and answered behind what is there, whatever bytes that is.
     pub fn step(&mut self, line: &[u8], out: &mut Vec<u8>) -> Result<(), AllocError>
+        ensures reached { ∥ Reach (world self.new) ∥₁ }
         ensures does { OnOk result (Does (is_line line.now) (line_in line.now) self.old self.new out.old.items out.new.items) }
         ensures turns { OnOk result (Turns (is_line line.now) (line_in line.now) (world self.old) (world self.new)) }
     {
         let mut said = String::new(self.heap);
-        self.say(line, &mut said)?;
+        let told = self.say(line, &mut said);
+        // whatever came of it, the world on the stage is one that is reached
+        let _stage = &self.stage;
+        told?;
         out.extend_from_slice(said.as_bytes())?;
         Ok(())
     }

@@ -1,7 +1,7 @@
 // The stage: a boss, helpers and messages whose world is one that is reached from the start.
 ghost use Rattle.std.specs.Prelude.{◌≡◌, ◌<◌, ◌≤◌, length, IfOk, OnOk, OnErr, None, Ok, Err, ◌≢◌};
 ghost use Rattle.helper_coins.specs.Helpers.{holding_of};
-ghost use Rattle.runs.specs.System.{Runs, helper_at};
+ghost use Rattle.runs.specs.System.{Reach, Runs, helper_at};
 ghost use Rattle.runs.specs.Promise.{Promised};
 ghost use Rattle.stage.specs.Scenes.{opening, world};
 ghost use Rattle.stage.specs.Plays.{plays, Sends, Outcome, Onward, Said, next, Lets, Settled, Calmed};
@@ -59,6 +59,7 @@ impl Stage {
     // A stage with so many helpers, up to 256, on which nothing has happened.
     pub fn new(heap: Global, n: u16) -> Result<Stage, Unstaged>
         ensures made { IfOk result (λ s. s ≡ opening n) }
+        ensures reached { IfOk result (λ s. ∥ Reach (world s) ∥₁) }
         ensures few { 256 < n → result ≡ Err Unstaged.TooMany }
         ensures memory { n ≤ 256 → result ≢ Err Unstaged.TooMany }
     {
@@ -74,6 +75,7 @@ impl Stage {
     pub fn play(&mut self, command: Command, work: Work) -> Result<Answer, AllocError>
         ensures does { Outcome (plays self.old command work) self.old self.new result }
         ensures memory { OnErr result (Sends command) }
+        ensures reached { ∥ Reach (world self.new) ∥₁ }
         ensures goes { Onward (world self.old) (world self.new) }
         ensures promised { Promised (world self.new) }
         ensures done { result ≡ Ok Answer.Done → Said command (world self.new) }
@@ -84,6 +86,7 @@ impl Stage {
     // Lets messages come until none is left. Of what is quiet all coins are back then, so that say answers done.
     pub fn settle(&mut self) -> Result<(), AllocError>
         ensures does { OnOk result (Lets self.old self.new × (next self.new ≡ None)) }
+        ensures reached { ∥ Reach (world self.new) ∥₁ }
         ensures goes { Runs (world self.old) (world self.new) }
         ensures promised { Promised (world self.new) }
         ensures settled { OnOk result (Settled (world self.new)) }
@@ -95,9 +98,10 @@ impl Stage {
         Ok(())
     }
 
-    // How many helpers there are.
+    // How many helpers there are; and of any stage, that its world is one that is reached.
     pub fn helpers(&self) -> usize
-        ensures { result ≡ length self.now.helpers }
+        ensures value { result ≡ length self.now.helpers }
+        ensures reached { ∥ Reach (world self.now) ∥₁ }
     {
         self.table.helpers.len()
     }

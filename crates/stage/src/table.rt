@@ -15,6 +15,7 @@ use coins::work::Work;
 use helper_coins::helper::Helper;
 use std::alloc::{AllocError, Global};
 
+// Seen as a scene by `scene`, and by no Model: that would hide the memory that is ready for a message.
 #[derive(Drop)]
 pub(crate) struct Table {
     pub(crate) boss: Boss,

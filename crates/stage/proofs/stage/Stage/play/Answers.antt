@@ -13,3 +13,6 @@ returns-clause-promised c = promised_of _ (reach_on _ _ c.args.command c.args.wo
 
 pub returns-clause-done : goal.returns-clause-done
 returns-clause-done c = done_on _ _ c.args.command c.args.work c.play.result c.play.ensures.does c.self.invariant
+
+pub returns-clause-reached : goal.returns-clause-reached
+returns-clause-reached c = reach_on _ _ c.args.command c.args.work c.play.result c.play.ensures.does c.self.invariant
