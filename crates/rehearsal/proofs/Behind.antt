@@ -1,9 +1,8 @@
 -- What a line says is the same, whatever it is put behind.
-use Rattle.std.proofs.Common.{◌≡◌, ℕ, Bool, true, false, List, [], ◌++◌, sym, ap, ◌∙◌, append-nil, append_assoc}
+use Rattle.std.proofs.Common.{ℕ, Bool, true, false, List, [], ◌++◌, sym, ap, ◌∙◌, append-nil, append_assoc}
 use Rattle.text.specs.Growth.{Added}
 use Rattle.script.specs.Lines.{Plan, empty, play, settle, show, new}
 use Rattle.stage.specs.Scenes.{Scene}
-use Rattle.rehearsal.specs.Tables.{Shown}
 use Rattle.rehearsal.specs.Steps.{Does}
 
 behind : (was said more : List ℕ) → Added [] said more → Added was (was ++ said) more

@@ -1,7 +1,11 @@
 -- The words of a line.
-use Rattle.std.specs.Prelude.{ℕ, Bool, not, ◌||◌, List, length, take, drop, ◌==◌, nat_lt}
+use Rattle.std.specs.Prelude.{◌≡◌, ℕ, Bool, true, false, Option, MatchOption, not, ◌||◌, List, length, take, drop, ◌==◌, nat_lt}
 use Rattle.std.specs.List.{position_or_len}
 use Rattle.std.specs.Str.{bytes_eq}
+
+-- what a reader gives: something, where there is such a thing, of which this holds; else nothing
+abbrev pub Finds : {A : Type 0} → Option A → Bool → (A → Type 0) → Type 0
+Finds found is P = MatchOption found (is ≡ false) (λ a. (is ≡ true) × P a)
 
 -- a comment begins with # (35), and a line ends with 10
 abbrev pub is_end : ℕ → Bool

@@ -1,7 +1,7 @@
 // The parts of a line: each is read from the first word of a text, and what follows is handed on.
 // An iterator of words would be no plainer: the clauses speak of what follows.
 ghost use Rattle.std.specs.Prelude.{◌≡◌, ◌≤◌, true, false, MatchOption};
-ghost use Rattle.script.specs.Words.{has_word, rest_of};
+ghost use Rattle.script.specs.Words.{Finds, has_word, rest_of};
 ghost use Rattle.script.specs.Parts.{is_to, number_in, is_letter, letter_in, node_named, is_helper, helper_in, is_node, node_in, name_of, is_speaker, is_work, work_in};
 
 use crate::words::{is, split};
@@ -21,7 +21,7 @@ pub(crate) fn end(text: &[u8]) -> Option<()>
 // A word as a helper's number, at most 255.
 #[tactic(auto, unfolding(crate::specs::Parts::is_to, crate::specs::Parts::number_in))]
 fn helper_named(word: &[u8]) -> Option<NodeId>
-    ensures { MatchOption result (is_to 255 word.now ≡ false) (λ i. (is_to 255 word.now ≡ true) × (i ≡ node_named word.now)) }
+    ensures { Finds result (is_to 255 word.now) (λ i. i ≡ node_named word.now) }
 {
     let number = u8::try_from(number(word)?).ok()?;
     Some(NodeId {
@@ -32,7 +32,7 @@ fn helper_named(word: &[u8]) -> Option<NodeId>
 // A letter's number.
 #[tactic(auto, unfolding(crate::specs::Parts::is_to, crate::specs::Parts::number_in))]
 pub(crate) fn letter(text: &[u8]) -> Option<(LetterId, &[u8])>
-    ensures { MatchOption result (is_letter text.now ≡ false) (λ p. (is_letter text.now ≡ true) × (p.0 ≡ letter_in text.now) × (p.1.now ≡ rest_of text.now)) }
+    ensures { Finds result (is_letter text.now) (λ p. (p.0 ≡ letter_in text.now) × (p.1.now ≡ rest_of text.now)) }
 {
     let (word, rest) = split(text)?;
     let number = u32::try_from(number(word)?).ok()?;
@@ -41,7 +41,7 @@ pub(crate) fn letter(text: &[u8]) -> Option<(LetterId, &[u8])>
 
 // A helper's number.
 pub(crate) fn helper(text: &[u8]) -> Option<(NodeId, &[u8])>
-    ensures { MatchOption result (is_helper text.now ≡ false) (λ p. (is_helper text.now ≡ true) × (p.0 ≡ helper_in text.now) × (p.1.now ≡ rest_of text.now)) }
+    ensures { Finds result (is_helper text.now) (λ p. (p.0 ≡ helper_in text.now) × (p.1.now ≡ rest_of text.now)) }
 {
     let (word, rest) = split(text)?;
     Some((helper_named(word)?, rest))
@@ -49,7 +49,7 @@ pub(crate) fn helper(text: &[u8]) -> Option<(NodeId, &[u8])>
 
 // A helper, or the boss.
 pub(crate) fn node(text: &[u8]) -> Option<(NodeId, &[u8])>
-    ensures { MatchOption result (is_node text.now ≡ false) (λ p. (is_node text.now ≡ true) × (p.0 ≡ node_in text.now) × (p.1.now ≡ rest_of text.now)) }
+    ensures { Finds result (is_node text.now) (λ p. (p.0 ≡ node_in text.now) × (p.1.now ≡ rest_of text.now)) }
 {
     let (word, rest) = split(text)?;
     if is(word, b"boss") {
@@ -60,7 +60,7 @@ pub(crate) fn node(text: &[u8]) -> Option<(NodeId, &[u8])>
 
 // The helper that a line is of: its number, and a colon behind it.
 pub(crate) fn speaker(word: &[u8]) -> Option<NodeId>
-    ensures { MatchOption result (is_speaker word.now ≡ false) (λ i. (is_speaker word.now ≡ true) × (i ≡ node_named (name_of word.now))) }
+    ensures { Finds result (is_speaker word.now) (λ i. i ≡ node_named (name_of word.now)) }
 {
     let [digits @ .., b':'] = word else {
         return None;
@@ -70,7 +70,7 @@ pub(crate) fn speaker(word: &[u8]) -> Option<NodeId>
 
 // The hexadecimal of work: the last word, or none.
 pub(crate) fn work(text: &[u8]) -> Option<&[u8]>
-    ensures { MatchOption result (is_work text.now ≡ false) (λ w. (is_work text.now ≡ true) × (w.now ≡ work_in text.now)) }
+    ensures { Finds result (is_work text.now) (λ w. w.now ≡ work_in text.now) }
 {
     let Some((word, rest)) = split(text) else {
         return Some(b"");

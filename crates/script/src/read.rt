@@ -1,6 +1,6 @@
 // Reads a line.
 ghost use Rattle.std.specs.Prelude.{◌≡◌, true, false, MatchOption};
-ghost use Rattle.script.specs.Words.{rest_of};
+ghost use Rattle.script.specs.Words.{Finds, rest_of};
 ghost use Rattle.script.specs.Parts.{letter_in, helper_in, work_in};
 ghost use Rattle.script.specs.Lines.{Reads, is_give, is_say, is_boss_line, boss_line, is_helper_line, helper_line, is_pass, pass as pass_in, is_new, afresh as new_in, can_begin, begin as begin_in, is_line, line_in};
 
@@ -13,7 +13,7 @@ use text::decimal::number;
 
 // What follows `give` and `share`: a letter, a helper and the hexadecimal of work.
 fn work_for(text: &[u8]) -> Option<(LetterId, NodeId, &[u8])>
-    ensures { MatchOption result (is_give text.now ≡ false) (λ p. (is_give text.now ≡ true) × (p.0 ≡ letter_in text.now) × (p.1 ≡ helper_in (rest_of text.now)) × (p.2.now ≡ work_in (rest_of (rest_of text.now)))) }
+    ensures { Finds result (is_give text.now) (λ p. (p.0 ≡ letter_in text.now) × (p.1 ≡ helper_in (rest_of text.now)) × (p.2.now ≡ work_in (rest_of (rest_of text.now)))) }
 {
     let (letter, text) = letter(text)?;
     let (to, text) = helper(text)?;
@@ -22,7 +22,7 @@ fn work_for(text: &[u8]) -> Option<(LetterId, NodeId, &[u8])>
 
 // What follows `say` and `rest`: a letter alone.
 fn letter_alone(text: &[u8]) -> Option<LetterId>
-    ensures { MatchOption result (is_say text.now ≡ false) (λ l. (is_say text.now ≡ true) × (l ≡ letter_in text.now)) }
+    ensures { Finds result (is_say text.now) (λ l. l ≡ letter_in text.now) }
 {
     let (letter, text) = letter(text)?;
     end(text)?;

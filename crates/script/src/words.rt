@@ -1,6 +1,6 @@
 // The words of a line, separated by spaces and tabs. A comment goes from `#` to the end of the line.
 ghost use Rattle.std.specs.Prelude.{◌≡◌, true, false, MatchOption};
-ghost use Rattle.script.specs.Words.{is_end as is_end_of, is_blank as is_blank_of, code_of, has_word, word_of, rest_of, same};
+ghost use Rattle.script.specs.Words.{Finds, is_end as is_end_of, is_blank as is_blank_of, code_of, has_word, word_of, rest_of, same};
 
 // A comment begins here, or the line ends.
 fn is_end(byte: u8) -> bool
@@ -26,7 +26,7 @@ pub(crate) fn code(line: &[u8]) -> &[u8]
 
 // The first word of a text, and what follows it.
 pub(crate) fn split(text: &[u8]) -> Option<(&[u8], &[u8])>
-    ensures { MatchOption result (has_word text.now ≡ false) (λ p. (has_word text.now ≡ true) × (p.0.now ≡ word_of text.now) × (p.1.now ≡ rest_of text.now)) }
+    ensures { Finds result (has_word text.now) (λ p. (p.0.now ≡ word_of text.now) × (p.1.now ≡ rest_of text.now)) }
 {
     let start = text.iter().position(|b| !is_blank(*b))?;
     let text = &text[start..];

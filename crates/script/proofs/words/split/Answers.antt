@@ -19,4 +19,4 @@ returns c =
     let end = position_from_yields_List is_blank _ _ c.position-2.result c.position-2.ensures.ran (YieldsList-from_slice start (cc)) (λ x b q k. search rules) in
     let cut = c.unwrap_or-end.ensures ∙ first_or_end is_blank start c.position-2.result end in
     let both = words_from text start _ _ _ (begins text _ i found c.in_ok-start.was) cut c.split_at.ensures.front c.split_at.ensures.back in
-    (a_word text _ i found c.in_ok-start.was, both.0, both.1)
+    (a_word text _ i found c.in_ok-start.was, both)

@@ -7,7 +7,7 @@ use Rattle.rehearsal.proofs.rehearsal.Rehearsal.step.Goals as goal
 pub returns-clause-does : goal.returns-clause-does
 returns-clause-does c =
     let line = c.args.line.now in
-    let said = string_bytes c.say.new.out in
+    let said = string_bytes c.say-told.new.out in
     let none : string_bytes c.new-said.result ≡ [] = search rules in
     let all : vec_items c.extend_from_slice.new.self ≡ vec_items c.args.out.now ++ said = search rules in
-    rw all (does_behind (is_line line) (line_in line) c.args.self.now c.say.new.self (vec_items c.args.out.now) said (subst (λ was. Does (is_line line) (line_in line) c.args.self.now c.say.new.self was said) none c.in_ok-say.ensures.does))
+    rw all (does_behind (is_line line) (line_in line) c.args.self.now c.say-told.new.self (vec_items c.args.out.now) said (subst (λ was. Does (is_line line) (line_in line) c.args.self.now c.say-told.new.self was said) none c.in_ok-told.ensures.does))
