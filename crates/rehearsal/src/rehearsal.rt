@@ -19,13 +19,15 @@ use stage::command::Command;
 use stage::stage::Stage;
 use std::alloc::{AllocError, Global};
 use std::marker::Model;
+use std::mem;
 use text::hex::{HexFault, unhex};
 
-// Seen as the scene that is on its stage.
+// Seen as the scene that is on its stage. What a line says is put together in `said`, whose memory serves the next line.
 #[derive(Drop)]
 pub struct Rehearsal {
     heap: Global,
     stage: Stage,
+    said: String,
 }
 
 impl Model for Rehearsal {
@@ -62,6 +64,7 @@ impl Rehearsal {
         Ok(Rehearsal {
             heap,
             stage: staged(heap, HELPERS)?,
+            said: String::new(heap),
         })
     }
 
@@ -180,12 +183,12 @@ impl Rehearsal {
         ensures does { OnOk result (Does (is_line line.now) (line_in line.now) self.old self.new out.old.items out.new.items) }
         ensures turns { OnOk result (Turns (is_line line.now) (line_in line.now) (world self.old) (world self.new)) }
     {
-        let mut said = String::new(self.heap);
+        let mut said = mem::replace(&mut self.said, String::new(self.heap));
+        said.clear();
         let told = self.say(line, &mut said);
-        // whatever came of it, the world on the stage is one that is reached
-        let _stage = &self.stage;
+        self.said = said;
         told?;
-        out.extend_from_slice(said.as_bytes())?;
+        out.extend_from_slice(self.said.as_bytes())?;
         Ok(())
     }
 }

@@ -1,7 +1,7 @@
 // The table of all letters that are open, and what is under way of them.
 ghost use Rattle.std.specs.Prelude.{◌≡◌, min, length, string_bytes, Some, IfOk, OnOk};
 ghost use Rattle.text.specs.Growth.{Prints};
-ghost use Rattle.rehearsal.specs.Tables.{yes_or_no, helper_row, node_column, kind_column, bytes_column, mail_row, helper_rows, row_of, parcel_rows, headed, letter_table, table_of, tables, or_none, Sorted, Shown};
+ghost use Rattle.rehearsal.specs.Tables.{work_column, asked_column, helper_row, node_column, kind_column, bytes_column, mail_row, helper_rows, row_of, parcel_rows, headed, letter_table, table_of, tables, or_none, Sorted, Shown};
 
 use boss_coins::boss::Boss;
 use coins::ids::{LetterId, NodeId};
@@ -12,7 +12,7 @@ use stage::stage::Stage;
 use std::alloc::{AllocError, Global};
 use std::fmt;
 use std::fmt::Write;
-use text::hex::Hex;
+use text::hex::print_hex;
 
 // Puts the table of all open letters behind what is there, by their numbers.
 pub(crate) fn push_stage(heap: Global, out: &mut String, stage: &Stage) -> Result<(), AllocError>
@@ -87,21 +87,29 @@ fn push_helpers(out: &mut String, stage: &Stage, letter: LetterId) -> Result<(),
     Ok(())
 }
 
-#[tactic(auto, using(text::proofs::Written::right_aligned, crate::proofs::Columns::work_is, crate::proofs::Columns::asked_is), unfolding(crate::specs::Tables::helper_row, crate::specs::Tables::coins_column))]
+#[tactic(auto, using(text::proofs::Written::right_aligned), unfolding(crate::specs::Tables::helper_row, crate::specs::Tables::coins_column))]
 fn push_helper(out: &mut String, helper: NodeId, holding: Holding) -> Result<(), AllocError>
     ensures { Prints result out.old out.new (helper_row helper holding) }
 {
     let number = helper.number;
     let coins = holding.coins;
-    let working = yes(holding.working);
-    let asked = yes(holding.asked);
-    writeln!(out, "{number:>8}  {coins:>10}  {working:<7}  {asked}")
+    let working = work_column(holding.working);
+    let asked = asked_column(holding.asked);
+    writeln!(out, "{number:>8}  {coins:>10}{working}{asked}")
 }
 
-fn yes(is: bool) -> &'static str
-    ensures { result.now ≡ yes_or_no is }
+// Whether a helper is at work, with two spaces before it, in nine columns.
+fn work_column(working: bool) -> &'static str
+    ensures { result.now ≡ work_column working }
 {
-    if is { "yes" } else { "no" }
+    if working { "  yes    " } else { "  no     " }
+}
+
+// Whether it has asked for more, with two spaces before it.
+fn asked_column(asked: bool) -> &'static str
+    ensures { result.now ≡ asked_column asked }
+{
+    if asked { "  yes" } else { "  no" }
 }
 
 // What is under way of a letter, the oldest first.
@@ -137,7 +145,6 @@ fn push_row(out: &mut String, parcel: &Parcel, letter: LetterId) -> Result<(), A
 }
 
 // A message, and the bytes of its work.
-#[tactic(auto, using(text::proofs::Written::right_aligned), unfolding(crate::specs::Tables::mail_row, crate::specs::Tables::coins_column))]
 fn push_mail(out: &mut String, mail: Mail, bytes: &[u8]) -> Result<(), AllocError>
     ensures { Prints result out.old out.new (mail_row mail bytes.now) }
 {
@@ -145,8 +152,22 @@ fn push_mail(out: &mut String, mail: Mail, bytes: &[u8]) -> Result<(), AllocErro
     let receiver = Column(mail.receiver);
     let kind = kind_column(mail.kind);
     let coins = mail.kind.coins();
-    let bytes = Bytes(bytes);
-    writeln!(out, "{sender}{receiver}{kind}  {coins:>10}{bytes}")
+    write!(out, "{sender}{receiver}{kind}  {coins:>10}")?;
+    push_bytes(out, bytes)?;
+    out.push_str("\n")?;
+    Ok(())
+}
+
+// Two spaces and bytes in hexadecimal, where there are some.
+#[tactic(auto, unfolding(crate::specs::Tables::bytes_column))]
+fn push_bytes(out: &mut String, bytes: &[u8]) -> Result<(), AllocError>
+    ensures { Prints result out.old out.new (bytes_column bytes.now) }
+{
+    if bytes.is_empty() {
+        return Ok(());
+    }
+    out.push_str("  ")?;
+    print_hex(out, bytes)
 }
 
 // A helper's number, or `boss`, on the right of six columns.
@@ -178,22 +199,5 @@ fn kind_column(kind: Kind) -> &'static str
         Kind::Back(_) => "  back",
         Kind::NoMore => "  none",
         Kind::Ask => "  ask ",
-    }
-}
-
-// Two spaces and bytes in hexadecimal, where there are some.
-#[derive(Clone, Copy)]
-struct Bytes<'a>(&'a [u8]);
-
-impl fmt::Display for Bytes<'_> {
-    ghost output = { λ b. Some (bytes_column b.0.now) };
-
-    #[tactic(auto, unfolding(crate::specs::Tables::bytes_column))]
-    fn fmt<W: fmt::Write>(&self, f: &mut fmt::Formatter<W>) -> fmt::Result {
-        let bytes = self.0;
-        if bytes.is_empty() {
-            return Ok(());
-        }
-        write!(f, "  {}", Hex(bytes))
     }
 }

@@ -1,4 +1,5 @@
 pub mod Growing
+pub mod Spaces
 pub mod Values
 pub mod Pairs
 pub mod Back

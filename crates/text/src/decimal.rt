@@ -3,6 +3,7 @@ ghost use Rattle.std.specs.Prelude.{◌≡◌, ◌+◌, ◌-◌, ◌*◌, ◌^�
 ghost use Rattle.text.specs.Growth.{Added};
 ghost use Rattle.text.specs.Decimal.{is_digit, number_of};
 
+use crate::plain::push_spaces;
 use std::alloc::AllocError;
 
 // A number has at most so many digits.
@@ -37,21 +38,33 @@ pub fn number(text: &[u8]) -> Option<u64>
     Some(number)
 }
 
-// Puts a number's digits behind what is there, which may be any bytes, so it is no String.
+// How many digits a number has.
+fn digits(number: u64) -> usize
+    ensures { result ≡ length (decimal number) }
+{
+    if number < 10 {
+        1
+    } else {
+        digits(number / 10) + 1
+    }
+}
+
+// Puts a number's digits behind what is there.
 pub fn push_number(out: &mut Vec<u8>, number: u64) -> Result<(), AllocError>
     ensures { OnOk result (Added out.old.items out.new.items (decimal number)) }
 {
-    let digits = number.to_string(*out.allocator())?;
-    out.extend_from_slice(digits.as_bytes())?;
+    if number >= 10 {
+        push_number(out, number / 10)?;
+    }
+    out.push(b'0' + (number % 10) as u8)?;
     Ok(())
 }
 
 // Puts a number behind what is there, on the right of so many columns; a longer one takes what it needs.
-#[tactic(auto, using(crate::proofs::Written::right_aligned))]
 pub fn push_aligned(out: &mut Vec<u8>, number: u64, width: usize) -> Result<(), AllocError>
     ensures { OnOk result (Added out.old.items out.new.items (replicate (width - length (decimal number)) 32 ++ decimal number)) }
 {
-    let column = format!(in *out.allocator(); "{number:>width$}")?;
-    out.extend_from_slice(column.as_bytes())?;
+    push_spaces(out, width.saturating_sub(digits(number)))?;
+    push_number(out, number)?;
     Ok(())
 }
