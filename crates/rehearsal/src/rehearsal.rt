@@ -213,6 +213,7 @@ impl Rehearsal {
 
     // Plays a line, and puts what is shown and answered behind what is there, whatever bytes that is.
     pub fn step(&mut self, line: &[u8], out: &mut Vec<u8>) -> Result<(), AllocError>
+        ensures before { ∥ Reach (world self.old) ∥₁ }
         ensures reached { ∥ Reach (world self.new) ∥₁ }
         ensures does { OnOk result (Does (is_line line.now) (line_in line.now) self.old self.new out.old.items out.new.items) }
         ensures turns { OnOk result (Turns (is_line line.now) (line_in line.now) (world self.old) (world self.new)) }
