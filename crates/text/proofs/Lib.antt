@@ -1,5 +1,4 @@
 pub mod Growing
-pub mod Spaces
 pub mod Values
 pub mod Pairs
 pub mod Back

@@ -3,8 +3,8 @@ ghost use Rattle.std.specs.Prelude.{◌≡◌, ◌+◌, ◌-◌, ◌*◌, ◌^�
 ghost use Rattle.text.specs.Growth.{Added};
 ghost use Rattle.text.specs.Decimal.{is_digit, number_of};
 
-use crate::plain::push_spaces;
 use std::alloc::AllocError;
+use std::io::Write;
 
 // A number has at most so many digits.
 const LONGEST: usize = 20;
@@ -38,33 +38,17 @@ pub fn number(text: &[u8]) -> Option<u64>
     Some(number)
 }
 
-// How many digits a number has.
-fn digits(number: u64) -> usize
-    ensures { result ≡ length (decimal number) }
-{
-    if number < 10 {
-        1
-    } else {
-        digits(number / 10) + 1
-    }
-}
-
 // Puts a number's digits behind what is there.
 pub fn push_number(out: &mut Vec<u8>, number: u64) -> Result<(), AllocError>
     ensures { OnOk result (Added out.old.items out.new.items (decimal number)) }
 {
-    if number >= 10 {
-        push_number(out, number / 10)?;
-    }
-    out.push(b'0' + (number % 10) as u8)?;
-    Ok(())
+    write!(out, "{number}").map_err(|_| AllocError)
 }
 
 // Puts a number behind what is there, on the right of so many columns; a longer one takes what it needs.
+#[tactic(auto, using(crate::proofs::Written::right_aligned))]
 pub fn push_aligned(out: &mut Vec<u8>, number: u64, width: usize) -> Result<(), AllocError>
     ensures { OnOk result (Added out.old.items out.new.items (replicate (width - length (decimal number)) 32 ++ decimal number)) }
 {
-    push_spaces(out, width.saturating_sub(digits(number)))?;
-    push_number(out, number)?;
-    Ok(())
+    write!(out, "{number:>width$}").map_err(|_| AllocError)
 }
