@@ -9,8 +9,8 @@ use crate::purse::Coins;
 // asked for more and has no answer yet.
 #[derive(Clone, Copy, Debug, PartialEq, Eq)]
 pub struct Holding {
-    pub working: bool,
     pub coins: u64,
+    pub working: bool,
     pub asked: bool,
 }
 
