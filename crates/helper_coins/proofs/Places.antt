@@ -1,9 +1,11 @@
 -- The places of letters, among slots and among the numbers and holdings that are seen of them.
-use Rattle.std.proofs.Common.{◌≡◌, ℕ, Bool, List, [], ◌∷◌, map, refl, set, get_or}
+use Rattle.std.proofs.Common.{◌≡◌, ℕ, zero, suc, ◌<◌, Bool, true, false, List, [], ◌∷◌, map, refl, ◌==◌, Some, arith, set, get_or, slice_index}
 use Rattle.std.specs.List.{position, position_or_len}
 use Rattle.std.proofs.Math.Seq.{map-set_same}
 use Rattle.std.proofs.lemmas.List.{length-map, map-set}
+use Rattle.std.proofs.lemmas.List.Quantifiers.{position-Some}
 use Rattle.std.proofs.lemmas.Grind.{common_steps}
+use Rattle.coins.specs.Letters.{found}
 use Rattle.helper_coins.specs.declared.slot.Slot.{Slot}
 use Rattle.helper_coins.specs.declared.holding.Holding.{Holding}
 use Rattle.helper_coins.specs.Slots.{number_in, holding_in, numbers, holdings}
@@ -26,5 +28,13 @@ holdings_set xs i s = map-set holding_in xs i s
 -- a letter keeps its number when its holding changes
 pub numbers_kept : (xs : List Slot) (i : ℕ) (d : Slot) (x : Holding) → numbers (set xs i (record { letter = (get_or xs i d).letter; holding = x })) ≡ numbers xs
 numbers_kept xs i d x = map-set_same number_in xs i (record { letter = (get_or xs i d).letter; holding = x }) d refl
+
+-- the place of a letter is not free
+pub found_taken : (ns : List ℕ) (n i : ℕ) → found ns n ≡ Some i → 0 < slice_index ns i
+found_taken ns zero i e = cc
+found_taken ns (suc n) i e =
+    let some : (suc n == 0) ≡ false = grind arith in
+    let there : (slice_index ns i == suc n) ≡ true = (position-Some (λ x. x == suc n) ns i 0 (rw some at e)).1 in
+    grind arith
 
 pub ruleset stored = (common_steps, numbers_set, holdings_set, numbers_kept)

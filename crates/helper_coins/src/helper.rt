@@ -1,8 +1,8 @@
 // A helper: what it does with work and coins of all its letters.
-ghost use Rattle.std.specs.Prelude.{◌≡◌, ◌<◌, ◌≤◌, MatchOption, Some, nat_lt, slice_index};
+ghost use Rattle.std.specs.Prelude.{◌≡◌, ◌<◌, ◌≤◌, MatchOption, Some, nat_lt, slice_index, if◌then◌else◌};
 ghost use Rattle.helper_coins.specs.Holdings.{idle};
 ghost use Rattle.coins.specs.Letters.{place};
-ghost use Rattle.helper_coins.specs.Helpers.{new_helper, holding_of, slot_for, write, clear, to_boss, counted, seek_waiting, share_step, ask_at, rest_step, vacated, flush_step, work_step, more_step, no_more_step, arrive_step};
+ghost use Rattle.helper_coins.specs.Helpers.{new_helper, holding_of, slot_for, write, store, clear, to_boss, counted, seek_waiting, share_step, ask_at, rest_step, vacated, flush_step, work_step, more_step, no_more_step, arrive_step};
 
 use crate::holding::Holding;
 use crate::slot::{Slot, find, first_free, first_waiting};
@@ -81,6 +81,17 @@ impl Helper {
         self.slots[i] = Slot { letter, holding };
     }
 
+    // Changes what it has of the letter at a place, if a letter has the place.
+    #[tactic(auto, using(crate::proofs::Places::stored))]
+    fn store(&mut self, i: usize, holding: Holding)
+        requires { i < 64 }
+        ensures { self.new ≡ (if nat_lt 0 (slice_index self.old.letters i) then store self.old i holding else self.old) }
+    {
+        if self.slots[i].letter.number > 0 {
+            self.slots[i].holding = holding;
+        }
+    }
+
     // Takes a place from its letter.
     #[tactic(auto, using(crate::proofs::Places::stored))]
     fn free(&mut self, i: usize)
@@ -113,7 +124,7 @@ impl Helper {
 
     // Gives work on to a helper, with the smaller half of the coins. `peer` and `boss` are the places that
     // there are towards that helper and towards the boss.
-    #[tactic(auto, using(crate::proofs::Places::stored))]
+    #[tactic(auto, using(crate::proofs::Places::found_taken))]
     pub fn share(&mut self, letter: LetterId, to: NodeId, peer: usize, boss: usize) -> Outcome
         ensures { share_step self.old letter to peer boss ≡ record { helper = self.new; outcome = result } }
     {
@@ -137,7 +148,7 @@ impl Helper {
             return Outcome::refused(Refusal::NoPlace);
         }
         let (rest, half) = holding.split();
-        self.slots[i].holding = rest;
+        self.store(i, rest);
         Outcome::fine(Some(Mail {
             sender: self.me,
             receiver: to,
@@ -147,7 +158,6 @@ impl Helper {
     }
 
     // One coin can't be shared: asks for more, if it hasn't and there is a place.
-    #[tactic(auto, using(crate::proofs::Places::stored))]
     fn ask(&mut self, letter: LetterId, i: usize, holding: Holding, boss: usize) -> Outcome
         requires place { i < 64 }
         requires taken { 0 < slice_index self.old.letters i }
@@ -156,7 +166,7 @@ impl Helper {
         if holding.asked || boss == 0 {
             return Outcome::refused(Refusal::OneCoin);
         }
-        self.slots[i].holding = holding.ask();
+        self.store(i, holding.ask());
         Outcome {
             answer: Answer::Refused(Refusal::OneCoin),
             post: Some(self.to_boss(letter, Kind::Ask)),
@@ -240,12 +250,16 @@ impl Helper {
     }
 
     // The boss has no coins to give.
-    #[tactic(auto, using(crate::proofs::Places::stored))]
+    #[tactic(auto, using(crate::proofs::Places::found_taken))]
     fn no_more(&mut self, letter: LetterId) -> Taking
         ensures { no_more_step self.old letter ≡ record { helper = self.new; taking = result } }
     {
         if let Some(i) = find(&self.slots, letter) {
-            self.slots[i].holding.asked = false;
+            let holding = Holding {
+                asked: false,
+                ..self.slots[i].holding
+            };
+            self.store(i, holding);
         }
         Ok(None)
     }
