@@ -27,8 +27,8 @@ impl Holding {
     }
 
     // Coins that wait for a place on the way to the boss.
-    pub fn is_waiting(self) -> bool
-        ensures { result ≡ waits self }
+    pub fn is_waiting(&self) -> bool
+        ensures { result ≡ waits self.now }
     {
         !self.working && self.coins > 0
     }
