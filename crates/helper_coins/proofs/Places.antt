@@ -37,4 +37,4 @@ found_taken ns (suc n) i e =
     let there : (slice_index ns i == suc n) ≡ true = (position-Some (λ x. x == suc n) ns i 0 (rw some at e)).1 in
     grind arith
 
-pub ruleset stored = (common_steps, numbers_set, holdings_set, numbers_kept)
+pub ruleset stored = (common_steps, numbers_set, holdings_set, numbers_kept, found_taken)

@@ -2,7 +2,7 @@
 ghost use Rattle.std.specs.Prelude.{◌≡◌, ◌<◌, ◌≤◌, MatchOption, Some, nat_lt, slice_index, if◌then◌else◌};
 ghost use Rattle.helper_coins.specs.Holdings.{idle};
 ghost use Rattle.coins.specs.Letters.{place};
-ghost use Rattle.helper_coins.specs.Helpers.{new_helper, holding_of, slot_for, write, store, clear, to_boss, counted, seek_waiting, share_step, ask_at, rest_step, vacated, flush_step, work_step, more_step, no_more_step, arrive_step};
+ghost use Rattle.helper_coins.specs.Helpers.{new_helper, at, holding_of, slot_for, write, store, clear, to_boss, counted, seek_waiting, share_step, ask_at, rest_step, vacated, flush_step, work_step, more_step, no_more_step, arrive_step};
 
 use crate::holding::Holding;
 use crate::slot::{Slot, find, first_free, first_waiting};
@@ -54,7 +54,15 @@ impl Helper {
     pub fn holding(&self, letter: LetterId) -> Holding
         ensures { result ≡ holding_of self.now letter.number }
     {
-        find(&self.slots, letter).map_or(Holding::idle(), |i| self.slots[i].holding)
+        find(&self.slots, letter).map_or(Holding::idle(), |i| self.held(i))
+    }
+
+    // What it has of the letter at a place.
+    fn held(&self, i: usize) -> Holding
+        requires { i < 64 }
+        ensures { result ≡ at self.now.holdings i }
+    {
+        self.slots[i].holding
     }
 
     // Whether coins of some letter wait for a place.
@@ -124,7 +132,7 @@ impl Helper {
 
     // Gives work on to a helper, with the smaller half of the coins. `peer` and `boss` are the places that
     // there are towards that helper and towards the boss.
-    #[tactic(auto, using(crate::proofs::Places::found_taken))]
+    #[tactic(auto, using(crate::proofs::Places::stored))]
     pub fn share(&mut self, letter: LetterId, to: NodeId, peer: usize, boss: usize) -> Outcome
         ensures { share_step self.old letter to peer boss ≡ record { helper = self.new; outcome = result } }
     {
@@ -134,7 +142,7 @@ impl Helper {
         let Some(i) = find(&self.slots, letter) else {
             return Outcome::refused(Refusal::NoLetter);
         };
-        let holding = self.slots[i].holding;
+        let holding = self.held(i);
         if !holding.working {
             return Outcome::refused(Refusal::NotWorking);
         }
@@ -180,7 +188,7 @@ impl Helper {
         let Some(i) = find(&self.slots, letter) else {
             return Outcome::refused(Refusal::NoLetter);
         };
-        let holding = self.slots[i].holding;
+        let holding = self.held(i);
         if !holding.working {
             return Outcome::refused(Refusal::NotWorking);
         }
@@ -250,16 +258,19 @@ impl Helper {
     }
 
     // The boss has no coins to give.
-    #[tactic(auto, using(crate::proofs::Places::found_taken))]
+    #[tactic(auto, using(crate::proofs::Places::stored))]
     fn no_more(&mut self, letter: LetterId) -> Taking
         ensures { no_more_step self.old letter ≡ record { helper = self.new; taking = result } }
     {
         if let Some(i) = find(&self.slots, letter) {
-            let holding = Holding {
-                asked: false,
-                ..self.slots[i].holding
-            };
-            self.store(i, holding);
+            let holding = self.held(i);
+            self.store(
+                i,
+                Holding {
+                    asked: false,
+                    ..holding
+                },
+            );
         }
         Ok(None)
     }
