@@ -9,8 +9,8 @@ use crate::purse::Coins;
 // asked for more and has no answer yet.
 #[derive(Clone, Copy, Debug, PartialEq, Eq)]
 pub struct Holding {
-    pub working: bool,
     pub coins: u64,
+    pub working: bool,
     pub asked: bool,
 }
 
@@ -27,8 +27,8 @@ impl Holding {
     }
 
     // Coins that wait for a place on the way to the boss.
-    pub fn is_waiting(self) -> bool
-        ensures { result ≡ waits self }
+    pub fn is_waiting(&self) -> bool
+        ensures { result ≡ waits self.now }
     {
         !self.working && self.coins > 0
     }
