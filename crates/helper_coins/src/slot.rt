@@ -49,5 +49,5 @@ pub(crate) fn first_free(slots: &[Slot]) -> Option<usize>
 pub(crate) fn first_waiting(slots: &[Slot]) -> Option<usize>
     ensures { result ≡ position waits (holdings slots.now) }
 {
-    slots.iter().position(|slot| slot.holding.is_waiting())
+    slots.iter().position(|slot| slot.holding.waits())
 }
