@@ -1,21 +1,13 @@
-use Rattle.std.proofs.Common.{◌≡◌, ◌++◌, [], ◌∷◌, string_bytes, ap, ◌∙◌, rules}
-use Rattle.coins.specs.Mails.{coins_in}
+use Rattle.std.proofs.Common.{[], ◌∷◌, string_bytes}
 use Rattle.text.specs.Growth.{Added}
 use Rattle.text.proofs.Growing.{then}
-use Rattle.text.proofs.Written.{right_aligned}
-use Rattle.rehearsal.specs.Tables.{node_column, kind_column, coins_column, bytes_column, mail_row}
-use Rattle.rehearsal.proofs.Columns.{six}
+use Rattle.rehearsal.specs.Tables.{kind_column, mail_row}
 use Rattle.rehearsal.proofs.show.push_mail.Goals as goal
 
 pub returns : goal.returns
-unfolding mail_row coins_column
+unfolding mail_row
 returns c =
-    let mail = c.args.mail in
-    let was = string_bytes c.args.out.now in
-    let coins = coins_column (coins_in mail.kind) in
-    let bytes = bytes_column c.args.bytes.now in
-    let front = node_column mail.sender ++ (node_column mail.receiver ++ (kind_column mail.kind ++ coins)) in
-    let told : string_bytes c.write.new.self ≡ was ++ front = search (rules, right_aligned) in
-    let row : Added was (string_bytes c.push_bytes.new.out) (front ++ bytes) = then (record { is = told }) c.in_ok-push_bytes.ensures in
-    let line : Added was (string_bytes c.push_str.new.self) ((front ++ bytes) ++ 10 ∷ []) = then row (record { is = c.in_ok-push_str.ensures.bytes }) in
-    record { is = line.is ∙ ap (λ text. was ++ text) (six (node_column mail.sender) (node_column mail.receiver) (kind_column mail.kind) coins bytes (10 ∷ [])) }
+    let kind : Added (string_bytes c.push_node-2.new.out) (string_bytes c.push_str.new.self) (kind_column c.args.mail.kind) = record { is = rw c.kind_column.ensures at c.in_ok-push_str.ensures.bytes } in
+    let coins = rw c.coins.ensures at c.in_ok-push_coins.ensures in
+    let end : Added (string_bytes c.push_bytes.new.out) (string_bytes c.push_str-2.new.self) (10 ∷ []) = record { is = c.in_ok-push_str-2.ensures.bytes } in
+    then c.in_ok-push_node.ensures (then c.in_ok-push_node-2.ensures (then kind (then coins (then c.in_ok-push_bytes.ensures end))))
