@@ -31,8 +31,10 @@ impl<const MOST: usize> Model for Bytes<MOST> {
     ghost inverse_ok = { λ b h. Prim.rw (h.count, ← h.zeros, take-append-drop) refl };
 }
 
+// Put where it is called: a frame is made of seven small parts, and a call for each copies it and tests its length anew.
 impl<const MOST: usize> Bytes<MOST> {
     // No bytes.
+    #[inline(always)]
     pub fn empty() -> Bytes<MOST>
         ensures { result ≡ [] }
     {
@@ -42,6 +44,7 @@ impl<const MOST: usize> Bytes<MOST> {
         }
     }
 
+    #[inline(always)]
     pub fn as_slice(&self) -> &[u8]
         ensures same { result.now ≡ self.now }
         ensures within { length self.now ≤ MOST }
@@ -51,6 +54,7 @@ impl<const MOST: usize> Bytes<MOST> {
     }
 
     // Puts a part behind what is there.
+    #[inline(always)]
     pub fn push_slice(&mut self, part: &[u8]) -> Result<(), TooLong>
         ensures ok { OnOk result (self.new ≡ self.old ++ part.now) }
         ensures too_long { IsErr result ↔ (MOST < length self.old + length part.now) }

@@ -1,6 +1,6 @@
 // A helper: what it does with work and coins of all its letters.
-ghost use Rattle.std.specs.Prelude.{◌≡◌, ◌<◌, ◌≤◌, true, MatchOption, nat_lt, slice_index};
-ghost use Rattle.helper_coins.specs.Holdings.{idle, waits};
+ghost use Rattle.std.specs.Prelude.{◌≡◌, ◌<◌, ◌≤◌, MatchOption, Some, nat_lt, slice_index, if◌then◌else◌};
+ghost use Rattle.helper_coins.specs.Holdings.{idle};
 ghost use Rattle.coins.specs.Letters.{place};
 ghost use Rattle.helper_coins.specs.Helpers.{new_helper, at, holding_of, slot_for, write, store, clear, to_boss, counted, seek_waiting, share_step, ask_at, rest_step, vacated, flush_step, work_step, more_step, no_more_step, arrive_step};
 
@@ -17,7 +17,7 @@ use std::marker::Model;
 #[derive(Drop)]
 pub struct Helper {
     me: NodeId,
-    slots: [Option<Slot>; 64],
+    slots: [Slot; 64],
 }
 
 impl Model for Helper {
@@ -26,11 +26,11 @@ impl Model for Helper {
     ghost Value = { Shown };
 
     ghost use Rattle.std.specs.List.{All};
-    ghost use Rattle.helper_coins.specs.Slots.{numbers, holdings, Numbered};
+    ghost use Rattle.helper_coins.specs.Slots.{numbers, holdings, Tidy};
 
     ghost view = { λ h. record { me = h.me; letters = numbers h.slots; holdings = holdings h.slots } };
 
-    ghost invariant = { λ h. All Numbered h.slots };
+    ghost invariant = { λ h. All Tidy h.slots };
 }
 
 impl Helper {
@@ -39,7 +39,7 @@ impl Helper {
     {
         Helper {
             me,
-            slots: [None; 64],
+            slots: [Slot::free(); 64],
         }
     }
 
@@ -62,7 +62,7 @@ impl Helper {
         requires { i < 64 }
         ensures { result ≡ at self.now.holdings i }
     {
-        self.slots[i].map_or(Holding::idle(), |slot| slot.holding)
+        self.slots[i].holding
     }
 
     // Whether coins of some letter wait for a place.
@@ -80,29 +80,33 @@ impl Helper {
     }
 
     // Gives a place to a letter, with what it has of it.
+    #[tactic(auto, using(crate::proofs::Places::stored))]
     fn write(&mut self, i: usize, letter: LetterId, holding: Holding)
         requires place { i < 64 }
         requires numbered { 0 < letter.number }
         ensures { self.new ≡ write self.old i letter.number holding }
     {
-        self.slots[i] = Some(Slot { letter, holding });
+        self.slots[i] = Slot { letter, holding };
     }
 
-    // Changes what it has of the letter at a place.
+    // Changes what it has of the letter at a place, if a letter has the place.
+    #[tactic(auto, using(crate::proofs::Places::stored))]
     fn store(&mut self, i: usize, holding: Holding)
-        requires place { i < 64 }
-        requires taken { 0 < slice_index self.old.letters i }
-        ensures { self.new ≡ store self.old i holding }
+        requires { i < 64 }
+        ensures { self.new ≡ (if nat_lt 0 (slice_index self.old.letters i) then store self.old i holding else self.old) }
     {
-        self.slots[i] = self.slots[i].map(|slot| Slot { holding, ..slot });
+        if self.slots[i].letter.number > 0 {
+            self.slots[i].holding = holding;
+        }
     }
 
     // Takes a place from its letter.
+    #[tactic(auto, using(crate::proofs::Places::stored))]
     fn free(&mut self, i: usize)
         requires { i < 64 }
         ensures { self.new ≡ write self.old i 0 idle }
     {
-        self.slots[i] = None;
+        self.slots[i] = Slot::free();
     }
 
     // Frees the place of a letter, where it has one.
@@ -128,7 +132,7 @@ impl Helper {
 
     // Gives work on to a helper, with the smaller half of the coins. `peer` and `boss` are the places that
     // there are towards that helper and towards the boss.
-    #[tactic(auto, using(crate::proofs::Places::found_taken))]
+    #[tactic(auto, using(crate::proofs::Places::stored))]
     pub fn share(&mut self, letter: LetterId, to: NodeId, peer: usize, boss: usize) -> Outcome
         ensures { share_step self.old letter to peer boss ≡ record { helper = self.new; outcome = result } }
     {
@@ -196,25 +200,23 @@ impl Helper {
     }
 
     // Sends coins back that waited for a place: of the first such letter, if there is a place now.
-    #[tactic(auto, using(crate::proofs::Places::found_waits))]
     pub fn flush(&mut self, boss: usize) -> Option<Mail>
         ensures { flush_step self.old boss ≡ record { helper = self.new; post = result } }
     {
         match first_waiting(&self.slots) {
-            Some(i) if boss > 0 => self.vacate(i),
+            Some(i) if boss > 0 => Some(self.vacate(i)),
             _ => None,
         }
     }
 
     // The coins of a place go back, and it is free.
-    fn vacate(&mut self, i: usize) -> Option<Mail>
-        requires place { i < 64 }
-        requires waits { waits (at self.old.holdings i) ≡ true }
-        ensures { vacated self.old i ≡ record { helper = self.new; post = result } }
+    fn vacate(&mut self, i: usize) -> Mail
+        requires { i < 64 }
+        ensures { vacated self.old i ≡ record { helper = self.new; post = Some result } }
     {
-        let slot = self.slots[i]?;
+        let Slot { letter, holding } = self.slots[i];
         self.free(i);
-        Some(self.to_boss(slot.letter, Kind::Back(slot.holding.coins)))
+        self.to_boss(letter, Kind::Back(holding.coins))
     }
 
     // What it has of a letter that coins have come of, if they can be: some, and few enough, of a letter.
@@ -256,7 +258,7 @@ impl Helper {
     }
 
     // The boss has no coins to give.
-    #[tactic(auto, using(crate::proofs::Places::found_taken))]
+    #[tactic(auto, using(crate::proofs::Places::stored))]
     fn no_more(&mut self, letter: LetterId) -> Taking
         ensures { no_more_step self.old letter ≡ record { helper = self.new; taking = result } }
     {

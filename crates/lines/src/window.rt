@@ -113,11 +113,14 @@ impl LineEnd {
         ensures why { IsOkUnless result Refusal.NotSent }
         ensures after { end_of self.new ≡ answered_up_to (end_of self.old) upto.number }
     {
+        let n = self.waiting.len();
         let count = upto.number.saturating_sub(self.answered.number);
-        if count > self.waiting.len() as u64 {
+        if count > n as u64 {
             return Err(Refusal::NotSent);
         }
-        self.waiting.drain(..count as usize);
+        // A drain would turn round what it drops.
+        self.waiting.rotate_left(count as usize);
+        self.waiting.truncate(n - count as usize);
         self.answered.number += count;
         Ok(())
     }

@@ -1,4 +1,3 @@
 mod Acted
 mod Headings
-mod Columns
 mod Behind

@@ -31,9 +31,6 @@ unfoldable pub counts_row : LetterId → ℕ → ℕ → List ℕ
 counts_row letter given back =
     codes "letter " ++ (decimal letter.number ++ (codes ": given " ++ (decimal given ++ (codes ", back " ++ (decimal back ++ 10 ∷ [])))))
 
-abbrev pub yes_or_no : Bool → List ℕ
-yes_or_no is = cond is (codes "yes") (codes "no")
-
 -- with two spaces before it, the first in nine columns
 abbrev pub work_column : Bool → List ℕ
 work_column working = cond working (codes "  yes    ") (codes "  no     ")

@@ -21,11 +21,31 @@ use std::alloc::{AllocError, Global};
 use std::marker::Model;
 use text::hex::{HexFault, unhex};
 
-// Seen as the scene that is on its stage.
+// A stage on which commands and lines are played. Seen as the scene that is on it.
 #[derive(Drop)]
-pub struct Rehearsal {
+struct Playing {
     heap: Global,
     stage: Stage,
+}
+
+impl Model for Playing {
+    ghost use Rattle.stage.specs.Scenes.{Scene};
+
+    ghost Value = { Scene };
+
+    ghost use Rattle.stage.specs.Scenes.{world};
+    ghost use Rattle.runs.specs.System.{Reach};
+
+    ghost view = { λ p. p.stage };
+
+    ghost invariant = { λ p. ∥ Reach (world p.stage) ∥₁ };
+}
+
+// Seen as the scene that is on its stage. What a line says is put together in `said`, whose memory serves the next line.
+#[derive(Drop)]
+pub struct Rehearsal {
+    playing: Playing,
+    said: String,
 }
 
 impl Model for Rehearsal {
@@ -36,9 +56,9 @@ impl Model for Rehearsal {
     ghost use Rattle.stage.specs.Scenes.{world};
     ghost use Rattle.runs.specs.System.{Reach};
 
-    ghost view = { λ r. r.stage };
+    ghost view = { λ r. r.playing };
 
-    ghost invariant = { λ r. ∥ Reach (world r.stage) ∥₁ };
+    ghost invariant = { λ r. ∥ Reach (world r.playing) ∥₁ };
 }
 
 // A match, since through `map_err` the check does not see what is on the stage.
@@ -53,18 +73,7 @@ fn staged(heap: Global, helpers: u16) -> Result<Stage, AllocError>
     }
 }
 
-impl Rehearsal {
-    // A rehearsal with eight helpers, on which nothing has happened.
-    pub fn new(heap: Global) -> Result<Rehearsal, AllocError>
-        ensures opens { IfOk result (λ x. x ≡ opening 8) }
-        ensures reached { IfOk result (λ x. ∥ Reach (world x) ∥₁) }
-    {
-        Ok(Rehearsal {
-            heap,
-            stage: staged(heap, HELPERS)?,
-        })
-    }
-
+impl Playing {
     // Coins that waited for a place go, where there is one.
     fn flush(&mut self, by: NodeId) -> Result<(), AllocError>
         ensures does { OnOk result (self.new ≡ (plays self.old (Command.Flush by) no_work).scene) }
@@ -79,7 +88,10 @@ impl Rehearsal {
         ensures { IfOk result (λ o. MatchOption o (is_work hex.now ≡ false) (λ w. (is_work hex.now ≡ true) × (work_bytes w ≡ bytes_of hex.now))) }
     {
         match unhex(self.heap, hex) {
-            Ok(bytes) => Ok(Work::try_from(bytes.as_slice()).ok()),
+            Ok(bytes) => match Work::try_from(bytes.as_slice()) {
+                Ok(work) => Ok(Some(work)),
+                Err(_) => Ok(None),
+            },
             Err(HexFault::NotHex) => Ok(None),
             Err(HexFault::NoMemory) => Err(AllocError),
         }
@@ -174,18 +186,44 @@ impl Rehearsal {
         }
     }
 
+    // The same, and whatever came of it, the world on the stage is one that is reached.
+    fn step(&mut self, line: &[u8], out: &mut String) -> Result<(), AllocError>
+        ensures reached { ∥ Reach (world self.new) ∥₁ }
+        ensures does { OnOk result (Does (is_line line.now) (line_in line.now) self.old self.new (string_bytes out.old) (string_bytes out.new)) }
+        ensures turns { OnOk result (Turns (is_line line.now) (line_in line.now) (world self.old) (world self.new)) }
+    {
+        let told = self.say(line, out);
+        let _stage = &self.stage;
+        told
+    }
+}
+
+impl Rehearsal {
+    // A rehearsal with eight helpers, on which nothing has happened.
+    pub fn new(heap: Global) -> Result<Rehearsal, AllocError>
+        ensures opens { IfOk result (λ x. x ≡ opening 8) }
+        ensures reached { IfOk result (λ x. ∥ Reach (world x) ∥₁) }
+    {
+        let stage = staged(heap, HELPERS)?;
+        Ok(Rehearsal {
+            playing: Playing { heap, stage },
+            said: String::new(heap),
+        })
+    }
+
     // Plays a line, and puts what is shown and answered behind what is there, whatever bytes that is.
     pub fn step(&mut self, line: &[u8], out: &mut Vec<u8>) -> Result<(), AllocError>
+        ensures before { ∥ Reach (world self.old) ∥₁ }
         ensures reached { ∥ Reach (world self.new) ∥₁ }
         ensures does { OnOk result (Does (is_line line.now) (line_in line.now) self.old self.new out.old.items out.new.items) }
         ensures turns { OnOk result (Turns (is_line line.now) (line_in line.now) (world self.old) (world self.new)) }
     {
-        let mut said = String::new(self.heap);
-        let told = self.say(line, &mut said);
-        // whatever came of it, the world on the stage is one that is reached
-        let _stage = &self.stage;
-        told?;
-        out.extend_from_slice(said.as_bytes())?;
+        self.said.clear();
+        self.playing.step(line, &mut self.said)?;
+        if self.said.is_empty() {
+            return Ok(());
+        }
+        out.extend_from_slice(self.said.as_bytes())?;
         Ok(())
     }
 }

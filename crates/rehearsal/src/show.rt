@@ -1,7 +1,7 @@
 // The table of all letters that are open, and what is under way of them.
-ghost use Rattle.std.specs.Prelude.{◌≡◌, min, length, string_bytes, Some, IfOk, OnOk};
+ghost use Rattle.std.specs.Prelude.{◌≡◌, [], ◌∷◌, ◌++◌, min, length, string_bytes, Some, IfOk, OnOk};
 ghost use Rattle.text.specs.Growth.{Prints};
-ghost use Rattle.rehearsal.specs.Tables.{yes_or_no, helper_row, node_column, kind_column, bytes_column, mail_row, helper_rows, row_of, parcel_rows, headed, letter_table, table_of, tables, or_none, Sorted, Shown};
+ghost use Rattle.rehearsal.specs.Tables.{right, coins_column, work_column, asked_column, helper_row, node_column, kind_column, bytes_column, mail_row, helper_rows, row_of, parcel_rows, headed, letter_table, table_of, tables, or_none, Sorted, Shown};
 
 use boss_coins::boss::Boss;
 use coins::ids::{LetterId, NodeId};
@@ -10,9 +10,8 @@ use coins::parcel::Parcel;
 use helper_coins::holding::Holding;
 use stage::stage::Stage;
 use std::alloc::{AllocError, Global};
-use std::fmt;
 use std::fmt::Write;
-use text::hex::Hex;
+use text::hex::print_hex;
 
 // Puts the table of all open letters behind what is there, by their numbers.
 pub(crate) fn push_stage(heap: Global, out: &mut String, stage: &Stage) -> Result<(), AllocError>
@@ -87,21 +86,33 @@ fn push_helpers(out: &mut String, stage: &Stage, letter: LetterId) -> Result<(),
     Ok(())
 }
 
-#[tactic(auto, using(text::proofs::Written::right_aligned, crate::proofs::Columns::work_is, crate::proofs::Columns::asked_is), unfolding(crate::specs::Tables::helper_row, crate::specs::Tables::coins_column))]
 fn push_helper(out: &mut String, helper: NodeId, holding: Holding) -> Result<(), AllocError>
     ensures { Prints result out.old out.new (helper_row helper holding) }
 {
-    let number = helper.number;
-    let coins = holding.coins;
-    let working = yes(holding.working);
-    let asked = yes(holding.asked);
-    writeln!(out, "{number:>8}  {coins:>10}  {working:<7}  {asked}")
+    push_counted(out, helper.number, holding.coins)?;
+    out.push_str(state_columns(holding.working, holding.asked))?;
+    Ok(())
 }
 
-fn yes(is: bool) -> &'static str
-    ensures { result.now ≡ yes_or_no is }
+// A helper's number, and coins.
+#[tactic(auto, using(text::proofs::Written::right_aligned), unfolding(crate::specs::Tables::coins_column))]
+fn push_counted(out: &mut String, number: u16, coins: u64) -> Result<(), AllocError>
+    ensures { Prints result out.old out.new (right 8 number ++ coins_column coins) }
 {
-    if is { "yes" } else { "no" }
+    write!(out, "{number:>8}  {coins:>10}")
+}
+
+// Whether a helper is at work, in nine columns, and whether it has asked for more, each with two spaces before it; and
+// the row's end. One text for both: each piece of a format costs a call.
+fn state_columns(working: bool, asked: bool) -> &'static str
+    ensures { result.now ≡ work_column working ++ (asked_column asked ++ 10 ∷ []) }
+{
+    match (working, asked) {
+        (true, true) => "  yes      yes\n",
+        (true, false) => "  yes      no\n",
+        (false, true) => "  no       yes\n",
+        (false, false) => "  no       no\n",
+    }
 }
 
 // What is under way of a letter, the oldest first.
@@ -137,35 +148,49 @@ fn push_row(out: &mut String, parcel: &Parcel, letter: LetterId) -> Result<(), A
 }
 
 // A message, and the bytes of its work.
-#[tactic(auto, using(text::proofs::Written::right_aligned), unfolding(crate::specs::Tables::mail_row, crate::specs::Tables::coins_column))]
 fn push_mail(out: &mut String, mail: Mail, bytes: &[u8]) -> Result<(), AllocError>
     ensures { Prints result out.old out.new (mail_row mail bytes.now) }
 {
-    let sender = Column(mail.sender);
-    let receiver = Column(mail.receiver);
-    let kind = kind_column(mail.kind);
-    let coins = mail.kind.coins();
-    let bytes = Bytes(bytes);
-    writeln!(out, "{sender}{receiver}{kind}  {coins:>10}{bytes}")
+    push_node(out, mail.sender)?;
+    push_node(out, mail.receiver)?;
+    out.push_str(kind_column(mail.kind))?;
+    push_coins(out, mail.kind.coins())?;
+    push_bytes(out, bytes)?;
+    out.push_str("\n")?;
+    Ok(())
 }
 
 // A helper's number, or `boss`, on the right of six columns.
-#[derive(Clone, Copy)]
-struct Column(NodeId);
-
-impl fmt::Display for Column {
-    ghost output = { λ c. Some (node_column c.0) };
-
-    #[tactic(auto, using(text::proofs::Written::right_aligned), unfolding(crate::specs::Tables::node_column))]
-    fn fmt<W: fmt::Write>(&self, f: &mut fmt::Formatter<W>) -> fmt::Result {
-        let Column(node) = *self;
-        let number = node.number;
-        if node.is_boss() {
-            write!(f, "  boss")
-        } else {
-            write!(f, "{number:>6}")
-        }
+#[tactic(auto, using(text::proofs::Written::right_aligned), unfolding(crate::specs::Tables::node_column))]
+fn push_node(out: &mut String, node: NodeId) -> Result<(), AllocError>
+    ensures { Prints result out.old out.new (node_column node) }
+{
+    let number = node.number;
+    if node.is_boss() {
+        out.push_str("  boss")
+    } else {
+        write!(out, "{number:>6}")
     }
+}
+
+// Two spaces, and coins on the right of ten columns.
+#[tactic(auto, using(text::proofs::Written::right_aligned), unfolding(crate::specs::Tables::coins_column))]
+fn push_coins(out: &mut String, coins: u64) -> Result<(), AllocError>
+    ensures { Prints result out.old out.new (coins_column coins) }
+{
+    write!(out, "  {coins:>10}")
+}
+
+// Two spaces and bytes in hexadecimal, where there are some.
+#[tactic(auto, unfolding(crate::specs::Tables::bytes_column))]
+fn push_bytes(out: &mut String, bytes: &[u8]) -> Result<(), AllocError>
+    ensures { Prints result out.old out.new (bytes_column bytes.now) }
+{
+    if bytes.is_empty() {
+        return Ok(());
+    }
+    out.push_str("  ")?;
+    print_hex(out, bytes)
 }
 
 // The name of a kind, with two spaces before it, in six columns.
@@ -178,22 +203,5 @@ fn kind_column(kind: Kind) -> &'static str
         Kind::Back(_) => "  back",
         Kind::NoMore => "  none",
         Kind::Ask => "  ask ",
-    }
-}
-
-// Two spaces and bytes in hexadecimal, where there are some.
-#[derive(Clone, Copy)]
-struct Bytes<'a>(&'a [u8]);
-
-impl fmt::Display for Bytes<'_> {
-    ghost output = { λ b. Some (bytes_column b.0.now) };
-
-    #[tactic(auto, unfolding(crate::specs::Tables::bytes_column))]
-    fn fmt<W: fmt::Write>(&self, f: &mut fmt::Formatter<W>) -> fmt::Result {
-        let bytes = self.0;
-        if bytes.is_empty() {
-            return Ok(());
-        }
-        write!(f, "  {}", Hex(bytes))
     }
 }

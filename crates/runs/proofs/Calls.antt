@@ -23,7 +23,7 @@ use Rattle.runs.proofs.Holders.{Tidy, Changed, held_at, own, own_holding, stored
 use Rattle.runs.proofs.Views.{held_get, held_length, send_own, send_other}
 use Rattle.runs.proofs.Turns.{Order, Turn, Did, nothing_did, helper_did_moves, turn_shares, turn_asks, turn_rests, turn_flushes}
 
--- where the first waiting coins stand, coins wait
+-- a holding whose coins wait has at least one
 waits_coins : (x : Holding) → waits x ≡ true → 1 ≤ x.coins
 waits_coins x e = grind (arith, nat_tests)
 

@@ -4,6 +4,7 @@ ghost use Rattle.text.specs.Growth.{Added};
 ghost use Rattle.text.specs.Decimal.{is_digit, number_of};
 
 use std::alloc::AllocError;
+use std::io::Write;
 
 // A number has at most so many digits.
 const LONGEST: usize = 20;
@@ -37,13 +38,11 @@ pub fn number(text: &[u8]) -> Option<u64>
     Some(number)
 }
 
-// Puts a number's digits behind what is there, which may be any bytes, so it is no String.
+// Puts a number's digits behind what is there.
 pub fn push_number(out: &mut Vec<u8>, number: u64) -> Result<(), AllocError>
     ensures { OnOk result (Added out.old.items out.new.items (decimal number)) }
 {
-    let digits = number.to_string(*out.allocator())?;
-    out.extend_from_slice(digits.as_bytes())?;
-    Ok(())
+    write!(out, "{number}").map_err(|_| AllocError)
 }
 
 // Puts a number behind what is there, on the right of so many columns; a longer one takes what it needs.
@@ -51,7 +50,5 @@ pub fn push_number(out: &mut Vec<u8>, number: u64) -> Result<(), AllocError>
 pub fn push_aligned(out: &mut Vec<u8>, number: u64, width: usize) -> Result<(), AllocError>
     ensures { OnOk result (Added out.old.items out.new.items (replicate (width - length (decimal number)) 32 ++ decimal number)) }
 {
-    let column = format!(in *out.allocator(); "{number:>width$}")?;
-    out.extend_from_slice(column.as_bytes())?;
-    Ok(())
+    write!(out, "{number:>width$}").map_err(|_| AllocError)
 }

@@ -1,6 +1,6 @@
 // Bytes in hexadecimal: two digits to a byte, the high one first; the digits are 0 to 9 and a to f.
 ghost use Rattle.std.specs.Prelude.{◌≡◌, ◌+◌, ◌*◌, ◌<◌, true, length, MatchResult, OnOk, slice_index};
-ghost use Rattle.text.specs.Growth.{Added};
+ghost use Rattle.text.specs.Growth.{Added, Prints};
 ghost use Rattle.text.specs.declared.hex.HexFault.TheVariants.{NoMemory};
 ghost use Rattle.text.specs.Hex.{hex_value, hex_digit, pair_of, bytes_of, is_hex_text, hex_of, Fails};
 
@@ -45,6 +45,18 @@ pub fn nibble(digit: u8) -> Option<u8>
     }
 }
 
+// The digit that stands for a number below 16.
+fn digit_of(nibble: u8) -> u8
+    requires { nibble < 16 }
+    ensures { result ≡ hex_digit nibble }
+{
+    if nibble < 10 {
+        b'0' + nibble
+    } else {
+        b'a' + (nibble - 10)
+    }
+}
+
 // The byte that a pair of digits stands for.
 fn pair(high: u8, low: u8) -> Option<u8>
     ensures { result ≡ pair_of high low }
@@ -86,11 +98,23 @@ impl fmt::Display for Hex<'_> {
     }
 }
 
-// Puts the hexadecimal of the bytes behind what is there, which may be any bytes, so it is no String.
+// Puts the hexadecimal of the bytes behind a text, digit by digit: a format for each byte takes four times as long.
+pub fn print_hex(out: &mut String, bytes: &[u8]) -> Result<(), AllocError>
+    ensures { Prints result out.old out.new (hex_of bytes.now) }
+{
+    for byte in bytes {
+        out.push(char::from(digit_of(*byte / 16)))?;
+        out.push(char::from(digit_of(*byte % 16)))?;
+    }
+    Ok(())
+}
+
+// Puts the hexadecimal of the bytes behind what is there.
 pub fn push_hex(out: &mut Vec<u8>, bytes: &[u8]) -> Result<(), AllocError>
     ensures { OnOk result (Added out.old.items out.new.items (hex_of bytes.now)) }
 {
-    let digits = Hex(bytes).to_string(*out.allocator())?;
-    out.extend_from_slice(digits.as_bytes())?;
+    for byte in bytes {
+        out.extend_from_slice(&[digit_of(*byte / 16), digit_of(*byte % 16)])?;
+    }
     Ok(())
 }

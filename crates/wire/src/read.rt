@@ -19,6 +19,7 @@ fn coins(rest: &[u8]) -> Option<u64>
 }
 
 // What follows the kind says: the body, and the bytes of work that end the message.
+#[inline(always)]
 fn body(kind: u8, rest: &[u8]) -> Option<(Body, &[u8])>
     ensures { MatchOption result (ends kind rest.now ≡ false) (λ p. (ends kind rest.now ≡ true) × (p.0 ≡ body_of kind (number_at 8 rest.now 0)) × (p.1.now ≡ drop 10 rest.now)) }
 {
@@ -53,6 +54,7 @@ fn back(coins: u64) -> Kind
 }
 
 // Whether such a body goes that way.
+#[inline(always)]
 fn goes_so(sender: NodeId, receiver: NodeId, body: Body) -> bool
     ensures { result ≡ goes sender.number receiver.number body }
 {
@@ -69,6 +71,7 @@ fn goes_so(sender: NodeId, receiver: NodeId, body: Body) -> bool
 }
 
 // Whether it has coins where coins belong.
+#[inline(always)]
 fn is_paid(body: Body) -> bool
     ensures { result ≡ is_paid body }
 {
@@ -81,6 +84,7 @@ fn is_paid(body: Body) -> bool
 }
 
 // Whether the message can be.
+#[inline(always)]
 fn is_fine(message: &Message<'_>) -> bool
     ensures { result ≡ is_fine (view message.now) }
 {

@@ -22,6 +22,7 @@ fn body_number(body: Body) -> u8
 }
 
 // Puts a part where there is place for it.
+#[inline(always)]
 fn put(frame: &mut Frame, part: &[u8])
     requires { length frame.old + length part.now ≤ 283 }
     ensures { frame.new ≡ frame.old ++ part.now }
@@ -31,6 +32,7 @@ fn put(frame: &mut Frame, part: &[u8])
 
 // Puts the kind, and what follows it. More and Back stay apart: of the two joined, the goal had only names to answer
 // by that the check makes up.
+#[inline(always)]
 fn put_body(frame: &mut Frame, body: Body, work: &[u8])
     requires room { length frame.old ≤ 16 }
     requires short { length work.now ≤ 256 }
@@ -51,6 +53,7 @@ fn put_body(frame: &mut Frame, body: Body, work: &[u8])
 }
 
 // The bytes of a message whose work is not too long.
+#[inline(always)]
 fn frame_of(message: &Message<'_>) -> Frame
     requires { length message.now.work.now ≤ 256 }
     ensures { result ≡ framed (encode (view message.now)) }
@@ -76,6 +79,7 @@ pub fn write(message: &Message<'_>) -> Option<Frame>
 }
 
 // The bytes of a parcel under a number.
+#[inline(always)]
 pub fn numbered(parcel: &Parcel, number: SequenceNumber) -> Frame
     ensures { result ≡ framed (encode (numbered_msg parcel.now number.number)) }
 {
@@ -91,6 +95,7 @@ pub fn numbered(parcel: &Parcel, number: SequenceNumber) -> Frame
 }
 
 // The bytes that say that all up to a number was taken.
+#[inline(always)]
 pub fn acknowledgement(sender: NodeId, receiver: NodeId, number: SequenceNumber) -> Frame
     ensures { result ≡ framed (encode (taken_msg sender.number receiver.number number.number)) }
 {

@@ -1,7 +1,7 @@
 use Rattle.std.proofs.Common.{sym, refl}
 use Rattle.runs.specs.System.{still}
 use Rattle.rehearsal.proofs.Acted.{no_pass, not_fine}
-use Rattle.rehearsal.proofs.rehearsal.Rehearsal.follow.Goals as goal
+use Rattle.rehearsal.proofs.rehearsal.Playing.follow.Goals as goal
 
 pub returns-in_default : goal.returns-in_default
 returns-in_default c = record { does = sym (no_pass c.args.command c.args.answer _ c.in_default.not-Pass); goes = still; done = λ _. refl }

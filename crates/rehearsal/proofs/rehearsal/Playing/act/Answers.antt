@@ -1,6 +1,6 @@
 use Rattle.runs.proofs.Theorems.{runs_then}
 use Rattle.rehearsal.proofs.Acted.{ran}
-use Rattle.rehearsal.proofs.rehearsal.Rehearsal.act.Goals as goal
+use Rattle.rehearsal.proofs.rehearsal.Playing.act.Goals as goal
 
 pub returns-in_err-answer-clause-goes : goal.returns-in_err-answer-clause-goes
 returns-in_err-answer-clause-goes c = rw (← c.self.view_is) (ran c.play.ensures.goes)

@@ -1,5 +1,5 @@
 use Rattle.runs.specs.System.{still}
-use Rattle.rehearsal.proofs.rehearsal.Rehearsal.play.Goals as goal
+use Rattle.rehearsal.proofs.rehearsal.Playing.play.Goals as goal
 
 pub returns-in_err-work-clause-goes : goal.returns-in_err-work-clause-goes
 returns-in_err-work-clause-goes c = still

@@ -1,0 +1,6 @@
+use Rattle.std.proofs.Common.{◌≡◌, ◌++◌, take, string_bytes}
+use Rattle.text.specs.Hex.{hex_of}
+use Rattle.text.proofs.hex.print_hex.Given as goal
+
+abbrev pub invariant-loop-byte : goal.invariant-loop-byte
+invariant-loop-byte l = string_bytes l.out ≡ string_bytes l.initial.out ++ hex_of (take l.byte-index l.bytes)
