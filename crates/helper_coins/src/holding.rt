@@ -33,7 +33,7 @@ impl Holding {
         self.waits()
     }
 
-    // The same, of a holding where it lies: a search by value loads each one whole, in three times the time.
+    // The same, of a holding where it lies: a search by value loads each one whole, in twice the instructions.
     pub(crate) fn waits(&self) -> bool
         ensures { result ≡ waits self.now }
     {

@@ -8,7 +8,8 @@ ghost use Rattle.helper_coins.specs.Slots.{numbers, holdings, free_slot};
 use crate::holding::Holding;
 use coins::ids::LetterId;
 
-// A place: its letter, of number 0 where it is free, and what a helper has of that letter.
+// A place: its letter, of number 0 where it is free, and what a helper has of that letter. No Option, whose tag each
+// search for a letter would test too.
 #[derive(Clone, Copy)]
 pub(crate) struct Slot {
     pub(crate) letter: LetterId,

@@ -83,7 +83,8 @@ impl Playing {
         Ok(())
     }
 
-    // The work whose bytes are given in hexadecimal, if they are and are not too many.
+    // The work whose bytes are given in hexadecimal, if they are and are not too many. A match, since `ok` copies the
+    // work once more: a tenth of a refused line's time.
     fn work(&self, hex: &[u8]) -> Result<Option<Work>, AllocError>
         ensures { IfOk result (λ o. MatchOption o (is_work hex.now ≡ false) (λ w. (is_work hex.now ≡ true) × (work_bytes w ≡ bytes_of hex.now))) }
     {
@@ -186,7 +187,7 @@ impl Playing {
         }
     }
 
-    // The same, and whatever came of it, the world on the stage is one that is reached.
+    // The same; and whatever came of it, the world on the stage is one that is reached, as a look at the stage tells.
     fn step(&mut self, line: &[u8], out: &mut String) -> Result<(), AllocError>
         ensures reached { ∥ Reach (world self.new) ∥₁ }
         ensures does { OnOk result (Does (is_line line.now) (line_in line.now) self.old self.new (string_bytes out.old) (string_bytes out.new)) }

@@ -147,7 +147,7 @@ fn push_row(out: &mut String, parcel: &Parcel, letter: LetterId) -> Result<(), A
     Ok(())
 }
 
-// A message, and the bytes of its work.
+// A message, and the bytes of its work, column by column: each piece of a format costs a call.
 fn push_mail(out: &mut String, mail: Mail, bytes: &[u8]) -> Result<(), AllocError>
     ensures { Prints result out.old out.new (mail_row mail bytes.now) }
 {

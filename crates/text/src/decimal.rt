@@ -38,7 +38,7 @@ pub fn number(text: &[u8]) -> Option<u64>
     Some(number)
 }
 
-// Puts a number's digits behind what is there.
+// Puts a number's digits behind what is there, which may be any bytes, so it is no String.
 pub fn push_number(out: &mut Vec<u8>, number: u64) -> Result<(), AllocError>
     ensures { OnOk result (Added out.old.items out.new.items (decimal number)) }
 {

@@ -109,7 +109,7 @@ pub fn print_hex(out: &mut String, bytes: &[u8]) -> Result<(), AllocError>
     Ok(())
 }
 
-// Puts the hexadecimal of the bytes behind what is there.
+// Puts the hexadecimal of the bytes behind what is there, which may be any bytes, so it is no String.
 pub fn push_hex(out: &mut Vec<u8>, bytes: &[u8]) -> Result<(), AllocError>
     ensures { OnOk result (Added out.old.items out.new.items (hex_of bytes.now)) }
 {

@@ -5,3 +5,5 @@ pub mod decimal;
 pub mod hex;
 pub mod plain;
 pub mod returns;
+#[cfg(test)]
+mod tests;

@@ -1,4 +1,4 @@
-// A message from its bytes.
+// A message from its bytes. What looks at its parts is put where it is called, as in the writer.
 ghost use Rattle.std.specs.Prelude.{◌≡◌, ◌≢◌, true, false, length, drop, Some, None, MatchOption};
 ghost use Rattle.wire.specs.Numbers.{number_at};
 ghost use Rattle.wire.specs.Messages.{view};
