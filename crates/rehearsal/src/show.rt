@@ -94,7 +94,7 @@ fn push_helper(out: &mut String, helper: NodeId, holding: Holding) -> Result<(),
     Ok(())
 }
 
-// A helper's number, and coins.
+// A helper's number, and coins; by one `write!`, since each costs anew.
 #[tactic(auto, using(text::proofs::Written::right_aligned), unfolding(crate::specs::Tables::coins_column))]
 fn push_counted(out: &mut String, number: u16, coins: u64) -> Result<(), AllocError>
     ensures { Prints result out.old out.new (right 8 number ++ coins_column coins) }

@@ -1,4 +1,4 @@
-// The bytes of a message. Its parts are put where they are called: as calls of their own they take half as long again.
+// The bytes of a message. Its parts are put where they are called, which saves a quarter of a packet's time.
 ghost use Rattle.std.specs.Prelude.{◌≡◌, ◌+◌, ◌≤◌, ◌∷◌, ◌++◌, length};
 ghost use Rattle.wire.specs.Messages.{view, body_number, numbered_msg, taken_msg};
 ghost use Rattle.wire.specs.Bytes.{rest, encode};
